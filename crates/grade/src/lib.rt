@@ -1,4 +1,4 @@
 // Tolls: what a move costs. Grades, which tolls are joined into, are built on them.
+mod bounds;
 pub mod toll;
 pub mod upto;
-mod bounds;

@@ -1,0 +1,5 @@
+pub mod Phases
+pub mod Numerals
+pub mod Forms
+pub mod Reading
+pub mod Meaning

@@ -1,0 +1,4 @@
+// Lines of an order book as text: the forms, the line reader, and the text of a line.
+pub mod line;
+pub mod reader;
+pub mod refusal;
