@@ -1,1 +1,3 @@
 pub mod Fillings
+mod Steps
+mod Readers

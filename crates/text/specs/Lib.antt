@@ -3,3 +3,4 @@ pub mod Numerals
 pub mod Forms
 pub mod Reading
 pub mod Meaning
+pub mod Steps
