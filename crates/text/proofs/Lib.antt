@@ -1,2 +1,4 @@
 pub mod Fillings
 pub mod Phases
+pub mod Decimals
+pub mod Values

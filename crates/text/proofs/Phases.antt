@@ -22,6 +22,10 @@ abbrev pub Rising : (least top : ℕ) → List ℕ → Type 0
 Rising least top [] = Unit {0}
 Rising least top (n ∷ ns) = (least ≤ n) × ((n < top) × Rising (n + 1) top ns)
 
+pub rising-all : (least top : ℕ) (ns : List ℕ) → Rising least top ns → All (λ n. n < top) ns
+rising-all least top [] r = tt
+rising-all least top (n ∷ ns) r = (r .1 .0, rising-all (n + 1) top ns (r .1 .1))
+
 -- one bit more
 
 low : (n F : ℕ) → F % 2 ^ n < 2 ^ n
