@@ -5,6 +5,7 @@ use mathlib.Core.Bool.{Bool, true, false, cond}
 use mathlib.Core.List.{List, [], _∷_, _++_, map}
 use Prim.Native.Nat.{ℕ, suc, _+_, _*_, _^_, _≤_, _<_}
 use native.Mathlib.Omega.{arith}
+use borrow.Author.Needs.{needs}
 use lib.Dec.{ltb}
 use lib.ListN.{length}
 use Rattle.std.specs.Written.{decimal}
@@ -21,7 +22,7 @@ use Rattle.text.specs.declared.line.Line.{Line}
 use Rattle.text.specs.declared.line.Line.the-variants.{Order, Notice, Open, Watch, Link, End, Bare}
 use Rattle.text.specs.Phases.{members, with-all}
 use Rattle.text.specs.Numerals.{Numeral, value, kept}
-use Rattle.text.specs.Forms.{Part, Form, Values, word, number, wagons, rising, listed, blank-number, blank-wagon, spelled, text, forms}
+use Rattle.text.specs.Forms.{Part, Form, Values, word, number, wagons, rising, listed, blank-number, blank-wagon, spelled, text, order-form, notice-form, open-form, watch-form, link-form, end-form, bare-form, forms}
 use Rattle.text.specs.Reading.{wagons-of, values-of}
 use Rattle.text.specs.Meaning.{Filling, Proper, blank-digits, filled, Mark, list-marks, marks, Above, Falls, Within}
 use Rattle.text.proofs.Fillings.{kept-all, meant, Sized}
@@ -44,8 +45,11 @@ Fits (number most ∷ ps) r = (value (r .0) ≤ most) × Fits ps (r .1)
 Fits (wagons ∷ ps) r = All (λ n. n ≤ 31) (map value (r .0)) × Fits ps (r .1)
 Fits (rising ∷ ps) r = Rising 0 64 (map value (r .0)) × Fits ps (r .1)
 
-rising-low : (dss : List (List ℕ)) → Rising 0 64 (map value dss) → All (λ n. n ≤ 63) (map value dss)
-rising-low dss h = all-weaker (λ n. n < 64) (λ n. n ≤ 63) (λ n lt. omega arith) (map value dss) (rising-all 0 64 (map value dss) h)
+abbrev Under : ℕ → List ℕ → Type 0
+Under most ns = All (λ n. n ≤ most) ns
+
+rising-under : (ns : List ℕ) → Rising 0 64 ns → Under 63 ns
+rising-under ns r = all-weaker (λ n. n < 64) (λ n. n ≤ 63) (λ n lt. omega arith) ns (rising-all 0 64 ns r)
 
 -- the marks of a filling say whether it fits
 
@@ -59,7 +63,7 @@ Low ms = All (λ m. Above m → ⊥) ms
 abbrev Rises : List Mark → Type 0
 Rises ms = All (λ m. Falls m → ⊥) ms
 
-list-low : (most : ℕ) (rise : Bool) (dss : List (List ℕ)) (p least : ℕ) → Low (list-marks most rise p least dss) → All (λ n. n ≤ most) (map value dss)
+list-low : (most : ℕ) (rise : Bool) (dss : List (List ℕ)) (p least : ℕ) → Low (list-marks most rise p least dss) → Under most (map value dss)
 list-low most rise [] p least h = tt
 list-low most rise (ds ∷ dss) p least h = (omega (arith, h .0), list-low most rise dss _ _ (h .1))
 
@@ -80,7 +84,7 @@ fits-from-marks (rising ∷ ps) r p h f =
     let b = all-split (λ m. Falls m → ⊥) (list-marks 63 true p 0 (r .0)) _ f in
     (list-rises (r .0) p 0 (a .0) (b .0), fits-from-marks ps (r .1) _ (a .1) (b .1))
 
-low-list : (most : ℕ) (rise : Bool) (dss : List (List ℕ)) (p least : ℕ) → All (λ n. n ≤ most) (map value dss) → Low (list-marks most rise p least dss)
+low-list : (most : ℕ) (rise : Bool) (dss : List (List ℕ)) (p least : ℕ) → Under most (map value dss) → Low (list-marks most rise p least dss)
 low-list most rise [] p least h = tt
 low-list most rise (ds ∷ dss) p least h = ((λ a. omega arith), low-list most rise dss _ _ (h .1))
 
@@ -103,14 +107,14 @@ marks-from-fits (wagons ∷ ps) r h p =
     (all-append _ _ _ (low-list 31 false (r .0) p 0 (h .0)) (t .0), all-append _ _ _ (plain-list 31 (r .0) p) (t .1))
 marks-from-fits (rising ∷ ps) r h p =
     let t = marks-from-fits ps (r .1) (h .1) _ in
-    (all-append _ _ _ (low-list 63 true (r .0) p 0 (rising-low (r .0) (h .0))) (t .0), all-append _ _ _ (rising-list 63 64 (r .0) p 0 (h .0)) (t .1))
+    (all-append _ _ _ (low-list 63 true (r .0) p 0 (rising-under (map value (r .0)) (h .0))) (t .0), all-append _ _ _ (rising-list 63 64 (r .0) p 0 (h .0)) (t .1))
 
 -- a filling that fits is the text of what it means
 
 kept-value : (most n : ℕ) → n ≤ most → kept most n .value ≡ n
 kept-value most n le = cond-false (ltb most n) 0 n (le-ltb most n le)
 
-kept-values : (most : ℕ) (dss : List (List ℕ)) → All (λ n. n ≤ most) (map value dss) → map (λ x. x .value) (kept-all most dss) ≡ map value dss
+kept-values : (most : ℕ) (dss : List (List ℕ)) → Under most (map value dss) → map (λ x. x .value) (kept-all most dss) ≡ map value dss
 kept-values most [] h = refl
 kept-values most (ds ∷ dss) h = ap₂ _∷_ (kept-value most (value ds) (h .0)) (kept-values most dss (h .1))
 
@@ -118,7 +122,7 @@ joined-map : {X Y : Type 0} (f : Y → List ℕ) (g : X → Y) (xs : List X) →
 joined-map f g [] = refl
 joined-map f g (x ∷ xs) = ap (λ t. f (g x) ++ t) (joined-map f g xs)
 
-joined-digits : (most : ℕ) (dss : List (List ℕ)) → most < 10000 → All Numeral dss → All (λ n. n ≤ most) (map value dss) → joined blank-digits dss ≡ joined blank-number (map value dss)
+joined-digits : (most : ℕ) (dss : List (List ℕ)) → most < 10000 → All Numeral dss → Under most (map value dss) → joined blank-digits dss ≡ joined blank-number (map value dss)
 joined-digits most [] small n h = refl
 joined-digits most (ds ∷ dss) small n h =
     ap₂ (λ s t. (32 ∷ s) ++ t) (sym (decimal-numeral ds (n .0) (omega (arith, h .0)))) (joined-digits most dss small (n .1) (h .1))
@@ -152,7 +156,7 @@ filled-fits (wagons ∷ ps) small r pr h =
 filled-fits (rising ∷ ps) small r pr h =
     let t = filled-fits ps small (r .1) (pr .1) (h .1) in
     let ns = map value (r .0) in
-    let low = rising-low (r .0) (h .0) in
+    let low = rising-under ns (h .0) in
     let k : values-of (kept-all 63 (r .0)) ≡ ns = kept-values 63 (r .0) low in
     let e : joined blank-digits (r .0) ≡ joined blank-number (members (with-all 0 (values-of (kept-all 63 (r .0))))) =
         joined-digits 63 (r .0) (omega arith) (pr .0) low
@@ -172,15 +176,12 @@ written (number most ∷ ps) v = (decimal (v .0 .value), written ps (v .1))
 written (wagons ∷ ps) v = (map decimal (map (λ x. x .value) (listed (v .0))), written ps (v .1))
 written (rising ∷ ps) v = (map decimal (members (v .0)), written ps (v .1))
 
-abbrev Under : ℕ → List ℕ → Type 0
-Under most ns = All (λ n. n ≤ most) ns
-
 upto-under : (most : ℕ) (xs : List (UpTo most)) → Under most (map (λ x. x .value) xs)
 upto-under most [] = tt
 upto-under most (x ∷ xs) = (x .fits, upto-under most xs)
 
 members-under : (F : ℕ) → Under 63 (members F)
-members-under F = all-weaker (λ n. n < 64) (λ n. n ≤ 63) (λ n lt. omega arith) (members F) (rising-all 0 64 (members F) (rising-members F))
+members-under F = rising-under (members F) (rising-members F)
 
 numeral-decimals : (most : ℕ) (ns : List ℕ) → most < 10000 → Under most ns → All Numeral (map decimal ns)
 numeral-decimals most [] small h = tt
@@ -266,3 +267,86 @@ meant-written (rising ∷ ps) small v sized =
 pub spelled-filled : (ps : List Part) → Small ps → (v : Values ps) → Sized ps v → (r : Filling ps) × (Proper ps r × ((filled ps r ≡ spelled ps v) × ((meant ps r ≡ v) × ((p : ℕ) → All (λ m. Above m → ⊥) (marks ps r p) × All (λ m. Falls m → ⊥) (marks ps r p)))))
 spelled-filled ps small v sized =
     (written ps v, (written-proper ps small v, (filled-written ps v, (meant-written ps small v sized, marks-from-fits ps (written ps v) (written-fits ps small v)))))
+
+-- the text of values is short
+
+abbrev room : List Part → ℕ
+room [] = 0
+room (word w ∷ ps) = length w + room ps
+room (number most ∷ ps) = 4 + room ps
+room (wagons ∷ ps) = 6 + room ps
+room (rising ∷ ps) = 192 + room ps
+
+length-joined : (most : ℕ) (ns : List ℕ) → most < 100 → Under most ns → length (joined blank-number ns) ≤ 3 * length ns
+length-joined most [] small h = omega arith
+length-joined most (n ∷ ns) small h =
+    omega (arith, length-append (decimal n) (joined blank-number ns), length-decimal-le 2 n (omega arith) (omega arith) (omega arith), length-joined most ns small (h .1))
+
+length-spelled : (ps : List Part) → Small ps → (v : Values ps) → length (spelled ps v) ≤ room ps
+length-spelled [] small v = omega arith
+length-spelled (word w ∷ ps) small v = omega (arith, length-append w (spelled ps v), length-spelled ps small v)
+length-spelled (number most ∷ ps) small v =
+    let n = v .0 .value in
+    let le : n ≤ most = v .0 .fits in
+    omega (arith, length-append (decimal n) (spelled ps (v .1)), length-decimal-le 4 n (omega arith) (omega arith) (omega arith), length-spelled ps (small .1) (v .1))
+length-spelled (wagons ∷ ps) small v =
+    let xs = listed (v .0) in
+    let e : joined blank-wagon xs ≡ joined blank-number (map (λ x. x .value) xs) = sym (joined-map blank-number (λ x. x .value) xs) in
+    let three = length-joined 31 (map (λ x. x .value) xs) (omega arith) (upto-under 31 xs) in
+    let two : length (map (λ x. x .value) xs) ≤ 2 = simp length-map (length-listed (v .0)) in
+    omega (arith, length-append (joined blank-wagon xs) (spelled ps (v .1)), ap length e, three, two, length-spelled ps small (v .1))
+length-spelled (rising ∷ ps) small v =
+    let three = length-joined 63 (members (v .0)) (omega arith) (members-under (v .0)) in
+    omega (arith, length-append (joined blank-number (members (v .0))) (spelled ps (v .1)), three, length-members (v .0), length-spelled ps small (v .1))
+
+-- the seven forms
+
+pub small-forms : All (λ f. Small (f .parts)) forms
+small-forms = search needs
+
+short-forms : All (λ f. room (f .parts) ≤ 512) forms
+short-forms = search needs
+
+-- a line of this form is within the limits where its values are, and its text is theirs
+abbrev pub Tells : Form → Type 0
+Tells f = (v : Values (f .parts)) → Sized (f .parts) v → Within (f .line v) × (text (f .line v) ≡ spelled (f .parts) v)
+
+pub text-forms : All Tells forms
+text-forms =
+    ((λ v s. (tt, refl)), ((λ v s. (tt, refl)), ((λ v s. (s .0, refl)), ((λ v s. (tt, refl)), ((λ v s. (tt, refl)), ((λ v s. (tt, refl)), ((λ v s. (tt, refl)), tt)))))))
+
+-- a line as the values of a form
+pub record Formed (l : Line) : Type 0 where
+  pub form : Form
+  pub among : Has forms form
+  pub values : Values (form .parts)
+  pub sized : Sized (form .parts) values
+  pub line-is : form .line values ≡ l
+  pub text-is : text l ≡ spelled (form .parts) values
+
+formed-as : {l : Line} (f : Form) → Has forms f → (v : Values (f .parts)) → Sized (f .parts) v → f .line v ≡ l → Formed l
+formed-as f among v sized e = record {
+  form = f;
+  among = among;
+  values = v;
+  sized = sized;
+  line-is = e;
+  text-is = sym (ap text e) ∙ all-has Tells forms f text-forms among v sized .1;
+}
+
+pub formed : (l : Line) → Within l → Formed l
+formed (Order o) w =
+    formed-as order-form (0, omega arith, λ d. refl) (o .number, (o .mode, (o .wagon, (o .to, (o .wagons, (o .toll .minutes, (o .toll .class, tt))))))) tt refl
+formed (Notice n) w =
+    formed-as notice-form (1, omega arith, λ d. refl) (n .number, (n .mode, (n .to, (n .loses, (n .gains, (n .toll .minutes, (n .toll .class, tt))))))) tt refl
+formed (Open F) w = formed-as open-form (2, omega arith, λ d. refl) (F, tt) (w, tt) refl
+formed (Watch c) w = formed-as watch-form (3, omega arith, λ d. refl) (c .mode, (c .wagon, (c .node, tt))) tt refl
+formed (Link c) w = formed-as link-form (4, omega arith, λ d. refl) (c .node, (c .wagon, (c .to, tt))) tt refl
+formed (End t) w = formed-as end-form (5, omega arith, λ d. refl) (t, tt) tt refl
+formed (Bare p) w = formed-as bare-form (6, omega arith, λ d. refl) (p, tt) tt refl
+
+pub length-text : (l : Line) → Within l → length (text l) ≤ 512
+length-text l w =
+    let s = formed l w in
+    let small = all-has (λ f. Small (f .parts)) forms (s .form) small-forms (s .among) in
+    omega (arith, ap length (s .text-is), length-spelled (s .form .parts) small (s .values), all-has (λ f. room (f .parts) ≤ 512) forms (s .form) short-forms (s .among))
