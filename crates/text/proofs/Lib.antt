@@ -2,3 +2,4 @@ pub mod Fillings
 pub mod Phases
 pub mod Decimals
 pub mod Values
+pub mod Texts

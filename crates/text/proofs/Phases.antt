@@ -1,8 +1,7 @@
 -- A phase is the set of its members: its numbers in rising order give the phase back, and rising numbers are the members of
 -- the phase that they make. Assumes nothing.
-use mathlib.Core.Path.{_≡_, refl, sym, ap, subst, _∙_}
-use mathlib.Core.Logic.{⊎-elim}
-use mathlib.Core.Bool.{Bool, true, false, cond}
+use mathlib.Core.Path.{_≡_, refl, sym, ap, _∙_}
+use mathlib.Core.Bool.{cond}
 use mathlib.Core.List.{List, [], _∷_, _++_, append-assoc}
 use Prim.Native.Nat.{ℕ, zero, suc, _+_, _*_, _/_, _%_, _^_, _≤_, _<_}
 use native.Mathlib.Nat.{one-mul, zero-mul, zero-add, mod-one, mod-eq-of-lt, div-eq-of-lt, pow-le-pow-right, lt-of-lt-of-le}
@@ -13,7 +12,7 @@ use lib.Dec.{eqb}
 use lib.ListN.{length}
 use Rattle.std.specs.shelf.Lists.{All}
 use Rattle.std.proofs.shelf.Lists.{append-nil, length-append}
-use Rattle.std.proofs.shelf.Tests.{cases-bool, cases-eq, cond-true, cond-false, cond-both, eqb-true, eqb-false}
+use Rattle.std.proofs.shelf.Tests.{cond-both, eqb-true, eqb-false}
 use Rattle.std.proofs.shelf.Bits.{pow-pos, pow-below, or-lt, mod-pow-add, mod-below, shr-high, mod-low}
 use Rattle.text.specs.Phases.{has, members-below, members, with-all}
 
@@ -50,10 +49,10 @@ with-below (suc n) F =
     ∙ ap (λ set. with-all set (cond (has F n) (n ∷ []) [])) (with-below n F)
     ∙ cond-both (has F n) (n ∷ []) [] (λ ns. with-all (F % 2 ^ n) ns ≡ F % 2 ^ suc n)
     (λ e.
-        with-bit n (F % 2 ^ n) (low n F) ∙ ap (λ b. b * 2 ^ n + F % 2 ^ n) (sym (eqb-true (F / 2 ^ n % 2) 1 e)) ∙ sym (split n F))
+    with-bit n (F % 2 ^ n) (low n F) ∙ ap (λ b. b * 2 ^ n + F % 2 ^ n) (sym (eqb-true (F / 2 ^ n % 2) 1 e)) ∙ sym (split n F))
     (λ e.
-        let b : F / 2 ^ n % 2 ≡ 0 = omega (arith, eqb-false (F / 2 ^ n % 2) 1 e) in
-        sym (split n F ∙ ap (λ b. b * 2 ^ n + F % 2 ^ n) b ∙ ap (λ x. x + F % 2 ^ n) (zero-mul (2 ^ n)) ∙ zero-add (F % 2 ^ n)))
+    let b : F / 2 ^ n % 2 ≡ 0 = omega (arith, eqb-false (F / 2 ^ n % 2) 1 e) in
+    sym (split n F ∙ ap (λ b. b * 2 ^ n + F % 2 ^ n) b ∙ ap (λ x. x + F % 2 ^ n) (zero-mul (2 ^ n)) ∙ zero-add (F % 2 ^ n)))
 
 pub with-members : (F : ℕ) → F < 2 ^ 64 → with-all 0 (members F) ≡ F
 with-members F lt = with-below 64 F ∙ mod-eq-of-lt lt
@@ -107,10 +106,10 @@ members-same zero F G e = refl
 members-same (suc n) F G e =
     let s : (F / 2 ^ n % 2) * 2 ^ n + F % 2 ^ n ≡ (G / 2 ^ n % 2) * 2 ^ n + G % 2 ^ n = sym (split n F) ∙ e ∙ split n G in
     let high : F / 2 ^ n % 2 ≡ G / 2 ^ n % 2 =
-        sym (shr-high (F / 2 ^ n % 2) n (F % 2 ^ n) (low n F)) ∙ ap (λ x. x / 2 ^ n) s ∙ shr-high (G / 2 ^ n % 2) n (G % 2 ^ n) (low n G)
+    sym (shr-high (F / 2 ^ n % 2) n (F % 2 ^ n) (low n F)) ∙ ap (λ x. x / 2 ^ n) s ∙ shr-high (G / 2 ^ n % 2) n (G % 2 ^ n) (low n G)
     in
     let rest : F % 2 ^ n ≡ G % 2 ^ n =
-        sym (mod-low (F / 2 ^ n % 2) n (F % 2 ^ n) (low n F)) ∙ ap (λ x. x % 2 ^ n) s ∙ mod-low (G / 2 ^ n % 2) n (G % 2 ^ n) (low n G)
+    sym (mod-low (F / 2 ^ n % 2) n (F % 2 ^ n) (low n F)) ∙ ap (λ x. x % 2 ^ n) s ∙ mod-low (G / 2 ^ n % 2) n (G % 2 ^ n) (low n G)
     in
     λ i. members-same n F G rest i ++ cond (eqb (high i) 1) (n ∷ []) []
 
@@ -122,8 +121,8 @@ members-past : (least top set : ℕ) → set < 2 ^ least → least ≤ top → m
 members-past least top set lt le =
     le-ind (λ m. members-below m set ≡ members-below least set) refl
     (λ m k e.
-        let none : set / 2 ^ m ≡ 0 = div-eq-of-lt (below-more least m set lt k) in
-        ap (λ x. members-below m set ++ cond (eqb (x % 2) 1) (m ∷ []) []) none ∙ append-nil (members-below m set) ∙ e)
+    let none : set / 2 ^ m ≡ 0 = div-eq-of-lt (below-more least m set lt k) in
+    ap (λ x. members-below m set ++ cond (eqb (x % 2) 1) (m ∷ []) []) none ∙ append-nil (members-below m set) ∙ e)
     top le
 
 members-with-bit : (n set : ℕ) → set < 2 ^ n → members-below (suc n) (bitOr set (2 ^ n)) ≡ members-below n set ++ (n ∷ [])
@@ -139,7 +138,7 @@ members-with least top set (n ∷ ns) lt le r =
     let here : set < 2 ^ n = below-more least n set lt (r .0) in
     let one : n + 1 ≡ suc n = omega arith in
     let more : bitOr set (2 ^ n) < 2 ^ (n + 1) =
-        or-lt (n + 1) set (2 ^ n) (below-more n (n + 1) set here (omega arith)) (pow-below n (n + 1) (omega arith))
+    or-lt (n + 1) set (2 ^ n) (below-more n (n + 1) set here (omega arith)) (pow-below n (n + 1) (omega arith))
     in
     members-with (n + 1) top (bitOr set (2 ^ n)) ns more (omega arith) (r .1 .1)
     ∙ ap (λ k. members-below k (bitOr set (2 ^ n)) ++ ns) one

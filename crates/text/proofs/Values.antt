@@ -1,9 +1,9 @@
 -- The values of a line: a filling within the limits is the text of what it means, each line has such a filling, and its text
 -- is short. Assumes nothing.
 use mathlib.Core.Path.{_≡_, refl, sym, ap, ap₂, subst, _∙_}
-use mathlib.Core.Bool.{Bool, true, false, cond}
+use mathlib.Core.Bool.{Bool, true, false}
 use mathlib.Core.List.{List, [], _∷_, _++_, map}
-use Prim.Native.Nat.{ℕ, suc, _+_, _*_, _^_, _≤_, _<_}
+use Prim.Native.Nat.{ℕ, _+_, _*_, _^_, _≤_, _<_}
 use native.Mathlib.Omega.{arith}
 use borrow.Author.Needs.{needs}
 use lib.Dec.{ltb}
@@ -12,7 +12,7 @@ use Rattle.std.specs.Written.{decimal}
 use Rattle.std.specs.shelf.Lists.{All, Has, joined}
 use Rattle.std.proofs.shelf.Lists.{length-append, length-map}
 use Rattle.std.proofs.shelf.Tests.{cond-false, le-ltb}
-use Rattle.std.proofs.shelf.Elements.{all-append, all-map, all-has, all-weaker}
+use Rattle.std.proofs.shelf.Elements.{all-append, all-has, all-weaker}
 use Rattle.std.proofs.shelf.Decimals.{length-decimal-le}
 use Rattle.grade.specs.declared.upto.UpTo.{UpTo}
 use Rattle.grade.proofs.Values.{same-upto}
@@ -45,7 +45,8 @@ Fits (number most ∷ ps) r = (value (r .0) ≤ most) × Fits ps (r .1)
 Fits (wagons ∷ ps) r = All (λ n. n ≤ 31) (map value (r .0)) × Fits ps (r .1)
 Fits (rising ∷ ps) r = Rising 0 64 (map value (r .0)) × Fits ps (r .1)
 
-abbrev Under : ℕ → List ℕ → Type 0
+-- each number is within the limit
+abbrev pub Under : ℕ → List ℕ → Type 0
 Under most ns = All (λ n. n ≤ most) ns
 
 rising-under : (ns : List ℕ) → Rising 0 64 ns → Under 63 ns
@@ -127,6 +128,9 @@ joined-digits most [] small n h = refl
 joined-digits most (ds ∷ dss) small n h =
     ap₂ (λ s t. (32 ∷ s) ++ t) (sym (decimal-numeral ds (n .0) (omega (arith, h .0)))) (joined-digits most dss small (n .1) (h .1))
 
+pub wagons-text : (xs : List (UpTo 31)) → joined blank-wagon xs ≡ joined blank-number (map (λ x. x .value) xs)
+wagons-text xs = sym (joined-map blank-number (λ x. x .value) xs)
+
 listed-of : (xs : List (UpTo 31)) → length xs ≤ 2 → listed (wagons-of xs) ≡ xs
 listed-of [] le = refl
 listed-of (a ∷ []) le = refl
@@ -141,16 +145,16 @@ filled-fits (word w ∷ ps) small r pr h =
 filled-fits (number most ∷ ps) small r pr h =
     let t = filled-fits ps (small .1) (r .1) (pr .1) (h .1) in
     let e : r .0 ≡ decimal (kept most (value (r .0)) .value) =
-        sym (ap decimal (kept-value most (value (r .0)) (h .0)) ∙ decimal-numeral (r .0) (pr .0) (omega arith))
+    sym (ap decimal (kept-value most (value (r .0)) (h .0)) ∙ decimal-numeral (r .0) (pr .0) (omega arith))
     in
     (ap₂ _++_ e (t .0), t .1)
 filled-fits (wagons ∷ ps) small r pr h =
     let t = filled-fits ps small (r .1) (pr .1 .1) (h .1) in
     let xs = kept-all 31 (r .0) in
     let e : joined blank-digits (r .0) ≡ joined blank-wagon (listed (wagons-of xs)) =
-        joined-digits 31 (r .0) (omega arith) (pr .0) (h .0) ∙ ap (joined blank-number) (sym (kept-values 31 (r .0) (h .0)))
-        ∙ joined-map blank-number (λ x. x .value) xs
-        ∙ ap (joined blank-wagon) (sym (listed-of xs (simp length-map (pr .1 .0))))
+    joined-digits 31 (r .0) (omega arith) (pr .0) (h .0) ∙ ap (joined blank-number) (sym (kept-values 31 (r .0) (h .0)))
+    ∙ sym (wagons-text xs)
+    ∙ ap (joined blank-wagon) (sym (listed-of xs (simp length-map (pr .1 .0))))
     in
     (ap₂ _++_ e (t .0), t .1)
 filled-fits (rising ∷ ps) small r pr h =
@@ -159,8 +163,8 @@ filled-fits (rising ∷ ps) small r pr h =
     let low = rising-under ns (h .0) in
     let k : values-of (kept-all 63 (r .0)) ≡ ns = kept-values 63 (r .0) low in
     let e : joined blank-digits (r .0) ≡ joined blank-number (members (with-all 0 (values-of (kept-all 63 (r .0))))) =
-        joined-digits 63 (r .0) (omega arith) (pr .0) low
-        ∙ ap (joined blank-number) (sym (ap (λ ms. members (with-all 0 ms)) k ∙ members-with-all ns (h .0)))
+    joined-digits 63 (r .0) (omega arith) (pr .0) low
+    ∙ ap (joined blank-number) (sym (ap (λ ms. members (with-all 0 ms)) k ∙ members-with-all ns (h .0)))
     in
     (ap₂ _++_ e (t .0), (subst (λ ms. with-all 0 ms < 2 ^ 64) (sym k) (with-all-fits ns (h .0)), t .1))
 
@@ -176,11 +180,11 @@ written (number most ∷ ps) v = (decimal (v .0 .value), written ps (v .1))
 written (wagons ∷ ps) v = (map decimal (map (λ x. x .value) (listed (v .0))), written ps (v .1))
 written (rising ∷ ps) v = (map decimal (members (v .0)), written ps (v .1))
 
-upto-under : (most : ℕ) (xs : List (UpTo most)) → Under most (map (λ x. x .value) xs)
+pub upto-under : (most : ℕ) (xs : List (UpTo most)) → Under most (map (λ x. x .value) xs)
 upto-under most [] = tt
 upto-under most (x ∷ xs) = (x .fits, upto-under most xs)
 
-members-under : (F : ℕ) → Under 63 (members F)
+pub members-under : (F : ℕ) → Under 63 (members F)
 members-under F = rising-under (members F) (rising-members F)
 
 numeral-decimals : (most : ℕ) (ns : List ℕ) → most < 10000 → Under most ns → All Numeral (map decimal ns)
@@ -244,7 +248,7 @@ filled-written (word w ∷ ps) v = ap (λ s. w ++ s) (filled-written ps v)
 filled-written (number most ∷ ps) v = ap (λ s. decimal (v .0 .value) ++ s) (filled-written ps (v .1))
 filled-written (wagons ∷ ps) v =
     let xs = listed (v .0) in
-    ap₂ _++_ (joined-map blank-digits decimal (map (λ x. x .value) xs) ∙ joined-map blank-number (λ x. x .value) xs) (filled-written ps (v .1))
+    ap₂ _++_ (joined-map blank-digits decimal (map (λ x. x .value) xs) ∙ sym (wagons-text xs)) (filled-written ps (v .1))
 filled-written (rising ∷ ps) v = ap₂ _++_ (joined-map blank-digits decimal (members (v .0))) (filled-written ps (v .1))
 
 pub meant-written : (ps : List Part) → Small ps → (v : Values ps) → Sized ps v → meant ps (written ps v) ≡ v
@@ -260,7 +264,7 @@ meant-written (rising ∷ ps) small v sized =
     let back : map value (map decimal ns) ≡ ns = value-decimals 63 ns (omega arith) (members-under (v .0)) in
     let under = subst (Under 63) (sym back) (members-under (v .0)) in
     let e : with-all 0 (values-of (kept-all 63 (map decimal ns))) ≡ v .0 =
-        ap (with-all 0) (kept-values 63 (map decimal ns) under ∙ back) ∙ with-members (v .0) (sized .0)
+    ap (with-all 0) (kept-values 63 (map decimal ns) under ∙ back) ∙ with-members (v .0) (sized .0)
     in
     λ i. (e i, meant-written ps small (v .1) (sized .1) i)
 
@@ -291,18 +295,20 @@ length-spelled (number most ∷ ps) small v =
     omega (arith, length-append (decimal n) (spelled ps (v .1)), length-decimal-le 4 n (omega arith) (omega arith) (omega arith), length-spelled ps (small .1) (v .1))
 length-spelled (wagons ∷ ps) small v =
     let xs = listed (v .0) in
-    let e : joined blank-wagon xs ≡ joined blank-number (map (λ x. x .value) xs) = sym (joined-map blank-number (λ x. x .value) xs) in
     let three = length-joined 31 (map (λ x. x .value) xs) (omega arith) (upto-under 31 xs) in
     let two : length (map (λ x. x .value) xs) ≤ 2 = simp length-map (length-listed (v .0)) in
-    omega (arith, length-append (joined blank-wagon xs) (spelled ps (v .1)), ap length e, three, two, length-spelled ps small (v .1))
+    omega (arith, length-append (joined blank-wagon xs) (spelled ps (v .1)), ap length (wagons-text xs), three, two, length-spelled ps small (v .1))
 length-spelled (rising ∷ ps) small v =
     let three = length-joined 63 (members (v .0)) (omega arith) (members-under (v .0)) in
     omega (arith, length-append (joined blank-number (members (v .0))) (spelled ps (v .1)), three, length-members (v .0), length-spelled ps small (v .1))
 
 -- the seven forms
 
-pub small-forms : All (λ f. Small (f .parts)) forms
+small-forms : All (λ f. Small (f .parts)) forms
 small-forms = search needs
+
+pub small-form : (f : Form) → Has forms f → Small (f .parts)
+small-form f among = all-has (λ f. Small (f .parts)) forms f small-forms among
 
 short-forms : All (λ f. room (f .parts) ≤ 512) forms
 short-forms = search needs
@@ -311,9 +317,12 @@ short-forms = search needs
 abbrev pub Tells : Form → Type 0
 Tells f = (v : Values (f .parts)) → Sized (f .parts) v → Within (f .line v) × (text (f .line v) ≡ spelled (f .parts) v)
 
-pub text-forms : All Tells forms
+text-forms : All Tells forms
 text-forms =
     ((λ v s. (tt, refl)), ((λ v s. (tt, refl)), ((λ v s. (s .0, refl)), ((λ v s. (tt, refl)), ((λ v s. (tt, refl)), ((λ v s. (tt, refl)), ((λ v s. (tt, refl)), tt)))))))
+
+pub text-form : (f : Form) → Has forms f → Tells f
+text-form f among = all-has Tells forms f text-forms among
 
 -- a line as the values of a form
 pub record Formed (l : Line) : Type 0 where
@@ -331,7 +340,7 @@ formed-as f among v sized e = record {
   values = v;
   sized = sized;
   line-is = e;
-  text-is = sym (ap text e) ∙ all-has Tells forms f text-forms among v sized .1;
+  text-is = sym (ap text e) ∙ text-form f among v sized .1;
 }
 
 pub formed : (l : Line) → Within l → Formed l
@@ -348,5 +357,4 @@ formed (Bare p) w = formed-as bare-form (6, omega arith, λ d. refl) (p, tt) tt 
 pub length-text : (l : Line) → Within l → length (text l) ≤ 512
 length-text l w =
     let s = formed l w in
-    let small = all-has (λ f. Small (f .parts)) forms (s .form) small-forms (s .among) in
-    omega (arith, ap length (s .text-is), length-spelled (s .form .parts) small (s .values), all-has (λ f. room (f .parts) ≤ 512) forms (s .form) short-forms (s .among))
+    omega (arith, ap length (s .text-is), length-spelled (s .form .parts) (small-form (s .form) (s .among)) (s .values), all-has (λ f. room (f .parts) ≤ 512) forms (s .form) short-forms (s .among))
