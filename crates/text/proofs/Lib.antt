@@ -1,3 +1,7 @@
+pub mod Steps
+pub mod Readers
 pub mod Fillings
-mod Steps
-mod Readers
+pub mod Phases
+pub mod Decimals
+pub mod Values
+pub mod Texts
