@@ -47,32 +47,34 @@ no-number before most least next e = cond-false (starts (before .rest .now)) _ _
 same-test : (limit v n : ℕ) → limit < 65536 → n ≡ min v 65536 → ltb limit v ≡ ltb limit n
 same-test limit v n small e =
     elim (cases-bool (ltb limit v)) [
-      inl y ↦ y ∙ sym (lt-ltb limit n (let h = ltb-true limit v y in omega arith))
-    | inr y ↦ y ∙ sym (le-ltb limit n (let h = ltb-false limit v y in omega arith)) ]
+      | inl y ↦ y ∙ sym (lt-ltb limit n (let h = ltb-true limit v y in omega arith))
+      | inr y ↦ y ∙ sym (le-ltb limit n (let h = ltb-false limit v y in omega arith))
+    ]
 
 same-kept : (most v n : ℕ) → most < 65536 → n ≡ min v 65536 → kept most v ≡ kept most n
 same-kept most v n small e =
     same-upto most (kept most v) (kept most n)
     (elim (cases-bool (ltb most v)) [
-      inl y ↦ cond-true (ltb most v) 0 v y ∙ sym (cond-true (ltb most n) 0 n (sym (same-test most v n small e) ∙ y))
-    | inr y ↦ cond-false (ltb most v) 0 v y ∙ (let h = ltb-false most v y in let z : v ≡ n = omega arith in z) ∙ sym (cond-false (ltb most n) 0 n (sym (same-test most v n small e) ∙ y)) ])
+      | inl y ↦ cond-true (ltb most v) 0 v y ∙ sym (cond-true (ltb most n) 0 n (sym (same-test most v n small e) ∙ y))
+      | inr y ↦ cond-false (ltb most v) 0 v y ∙ (let h = ltb-false most v y in let z : v ≡ n = omega arith in z) ∙ sym (cond-false (ltb most n) 0 n (sym (same-test most v n small e) ∙ y))
+    ])
 
 -- a number and what follows it, with the two places noted
 pub number-off : (before after : LineReader) (most least n over falls : ℕ) (x : UpTo most) (next : UpTo most → Next) → most < 65536 → NumberOff before after n
-  → x ≡ kept most n
-  → over ≡ noted (after .over) (before .place) (ltb most n)
-  → falls ≡ noted (after .falls) (before .place) (ltb (x .value) least)
-  → number-then most least before next ≡ next x (after .rest .now) (after .place) over falls
+    → x ≡ kept most n
+    → over ≡ noted (after .over) (before .place) (ltb most n)
+    → falls ≡ noted (after .falls) (before .place) (ltb (x .value) least)
+    → number-then most least before next ≡ next x (after .rest .now) (after .place) over falls
 number-off before after most least n over falls x next small h is o f =
     let v = numeral (before .place) (before .rest .now) .value in
     let y = same-kept most v n small (h .value) ∙ sym is in
     cond-true (starts (before .rest .now)) _ _ (h .begins)
     ∙ (λ i. next (y i) (sym (h .rest) i) (sym (h .place) i)
-        (((λ j. noted (sym (h .over) j) (before .place) (same-test most v n small (h .value) j)) ∙ sym o) i)
-        (((λ j. noted (sym (h .falls) j) (before .place) (ltb (y j .value) least)) ∙ sym f) i))
+    (((λ j. noted (sym (h .over) j) (before .place) (same-test most v n small (h .value) j)) ∙ sym o) i)
+    (((λ j. noted (sym (h .falls) j) (before .place) (ltb (y j .value) least)) ∙ sym f) i))
 
 -- a blank stands next
 pub blank-next : (s t : List ℕ) (p over falls n most least : ℕ) (rise : Bool) (next : List (UpTo most) → Next) → s ≡ 32 ∷ t
-  → take-numbers (suc n) most rise least s p over falls next
-  ≡ take-number most least t (p + 1) over falls (λ x t q o f. take-numbers n most rise (cond rise (x .value + 1) 0) t q o f (λ xs. next (x ∷ xs)))
+    → take-numbers (suc n) most rise least s p over falls next
+    ≡ take-number most least t (p + 1) over falls (λ x t q o f. take-numbers n most rise (cond rise (x .value + 1) 0) t q o f (λ xs. next (x ∷ xs)))
 blank-next s t p over falls n most least rise next e = ap (λ l. take-numbers (suc n) most rise least l p over falls next) e

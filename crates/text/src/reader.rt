@@ -111,9 +111,9 @@ impl<'a> LineReader<'a> {
     fn pair<const A: u16, const B: u16>(&mut self) -> Result<(UpTo<A>, UpTo<B>), LineRefusal>
         ensures { λ r. ⌜ Cases r
             (λ x. (ps : List Part) (line : Values (number A ∷ (word (codes " ") ∷ (number B ∷ ps))) → Line) →
-                scanned (number A ∷ (word (codes " ") ∷ (number B ∷ ps))) line (now (self .entry)) ≡ scanned ps (λ v. line (x .0, (x .1, v))) (now (self .exit)))
+            scanned (number A ∷ (word (codes " ") ∷ (number B ∷ ps))) line (now (self .entry)) ≡ scanned ps (λ v. line (x .0, (x .1, v))) (now (self .exit)))
             (λ e. (ps : List Part) (line : Values (number A ∷ (word (codes " ") ∷ (number B ∷ ps))) → Line) →
-                scanned (number A ∷ (word (codes " ") ∷ (number B ∷ ps))) line (now (self .entry)) ≡ Err e) ⌝ }
+            scanned (number A ∷ (word (codes " ") ∷ (number B ∷ ps))) line (now (self .entry)) ≡ Err e) ⌝ }
     {
         let a = self.number::<A>()?;
         self.word(b" ")?;
@@ -141,7 +141,7 @@ impl<'a> LineReader<'a> {
     fn blank(&mut self) -> bool
         ensures { λ r. ⌜ ((n most least : ℕ) (rise : Bool) (next : List (UpTo most) → Next) →
             numbers-then (suc n) most rise least (now (self .entry)) next
-                ≡ cond r (another-then n most rise least (now (self .exit)) next) (goes-on (next []) (now (self .exit)))) ⌝ }
+            ≡ cond r (another-then n most rise least (now (self .exit)) next) (goes-on (next []) (now (self .exit)))) ⌝ }
     {
         match self.rest {
             [b' ', rest @ ..] => {
@@ -223,7 +223,14 @@ impl<'a> LineReader<'a> {
         let wagons = self.wagons()?;
         self.word(b")")?;
         let toll = self.toll()?;
-        self.end(Line::Order(OrderLine { number, mode, wagon, to, wagons, toll }))
+        self.end(Line::Order(OrderLine {
+            number,
+            mode,
+            wagon,
+            to,
+            wagons,
+            toll,
+        }))
     }
 
     // What stands behind `(notice `.
@@ -237,7 +244,14 @@ impl<'a> LineReader<'a> {
         let (loses, gains) = self.pair::<63, 63>()?;
         self.word(b")")?;
         let toll = self.toll()?;
-        self.end(Line::Notice(NoticeLine { number, mode, to, loses, gains, toll }))
+        self.end(Line::Notice(NoticeLine {
+            number,
+            mode,
+            to,
+            loses,
+            gains,
+            toll,
+        }))
     }
 
     // What stands behind `(open`.
