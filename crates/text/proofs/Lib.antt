@@ -1,1 +1,2 @@
 pub mod Fillings
+pub mod Numbers
