@@ -1,3 +1,4 @@
 pub mod Fillings
 pub mod Numbers
 pub mod Filled
+pub mod Verdicts
