@@ -2,3 +2,4 @@ pub mod Fillings
 pub mod Numbers
 pub mod Filled
 pub mod Verdicts
+pub mod Shapes
