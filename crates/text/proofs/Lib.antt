@@ -3,3 +3,4 @@ pub mod Numbers
 pub mod Filled
 pub mod Verdicts
 pub mod Shapes
+pub mod Local

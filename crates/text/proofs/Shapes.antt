@@ -19,6 +19,7 @@ use Rattle.text.specs.Numerals.{Numeral, starts}
 use Rattle.text.specs.Forms.{Part, Values, word, number, wagons, rising}
 use Rattle.text.specs.Reading.{Outcome, Next, take-word, take-number, take-numbers, wagons-of, values-of, many, scan}
 use Rattle.text.specs.Meaning.{Filling, Proper, blank-digits, filled}
+use Rattle.text.proofs.Filled.{Clear, settled-clean}
 use Rattle.text.proofs.Numbers.{Numbered, numbered, number-taken, number-refused}
 
 abbrev pub Texts : Type 1
@@ -38,7 +39,7 @@ pub record Halts (L : Texts) (s : List ℕ) (p : ℕ) (x : Outcome) : Type 0 whe
   pub begins : L (take (at - p) s ++ more)
 
 abbrev pub Tells : Texts → List ℕ → ℕ → Outcome → Type 0
-Tells L s p x = Halts L s p x ⊎ L s
+Tells L s p x = Halts L s p x ⊎ (L s × Clear x)
 
 abbrev Some : Texts → Type 0
 Some L = (t : List ℕ) × L t
@@ -63,7 +64,7 @@ tells-after L M w to s p q x e (inl h) =
       more = h .more;
       begins = subst M (sym (ap (λ l. l ++ h .more) f ∙ append-assoc w (take (h .at - q) s) (h .more))) (to _ (h .begins));
     })
-tells-after L M w to s p q x e (inr h) = inr (to s h)
+tells-after L M w to s p q x e (inr h) = inr (to s (h .0), h .1)
 
 tells-here : (L : Texts) → Some L → (s : List ℕ) (p : ℕ) (x : Outcome) → x ≡ Err (Syntax p) → Tells L s p x
 tells-here L some s p x e =
@@ -142,10 +143,10 @@ complete (rising ∷ ps) = let (t, (r, (h, e))) = complete ps in (t, (([], r), (
 tells-weaker : (L M : Texts) → ((t : List ℕ) → L t → M t) → (s : List ℕ) (p : ℕ) (x : Outcome) → Tells L s p x → Tells M s p x
 tells-weaker L M to s p x h = tells-after L M [] to s p p x (omega arith) h
 
--- the reader stops in a text that begins the form, or the text has the form
+-- the reader stops in a text that begins the form, or it does not, and the text has the form
 pub scan-tells : (ps : List Part) (line : Values ps → Line) → Told (Of ps) (scan ps line)
 unfolding scan
-scan-tells [] line [] p over falls = inr (tt, (tt, refl))
+scan-tells [] line [] p over falls = inr ((tt, (tt, refl)), settled-clean (line tt) over falls)
 scan-tells [] line (b ∷ s) p over falls = tells-here (Of []) (complete []) (b ∷ s) p _ refl
 scan-tells (word w ∷ ps) line s p over falls =
     tells-weaker (Worded w (Of ps)) (Of (word w ∷ ps)) (λ s (t, (r, (h, e)), f). (r, (h, f ∙ ap (λ l. w ++ l) e))) s p _
