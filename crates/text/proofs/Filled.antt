@@ -8,7 +8,7 @@ use native.Mathlib.Omega.{arith}
 use lib.Dec.{eqb, ltb}
 use lib.ListN.{length, take}
 use Rattle.std.proofs.shelf.Lists.{append-assoc, length-append}
-use Rattle.std.proofs.shelf.Tests.{false≢true, cond-true, cond-false, cases-lt, cases-bool, eq-eqb, ne-eqb, eqb-false, and-parts, not-true}
+use Rattle.std.proofs.shelf.Tests.{false≢true, cond-true, cond-false, cond-both, cases-lt, eq-eqb, ne-eqb, eqb-false, and-parts, not-true}
 use Rattle.std.specs.shelf.Lists.{All, joined}
 use Rattle.std.specs.declared.result.Result.the-variants.{Ok, Err}
 use Rattle.grade.specs.declared.upto.UpTo.{UpTo}
@@ -56,22 +56,24 @@ parted (rising ∷ ps) = ends ps && parted ps
 abbrev pub settled : Line → ℕ → ℕ → Outcome
 settled l over falls = cond (eqb over 0) (cond (eqb falls 0) (Ok l) (Err (NotRising falls))) (Err (TooLarge over))
 
+abbrev pub is-syntax : Outcome → Bool
+is-syntax (Ok l) = false
+is-syntax (Err (Syntax q)) = true
+is-syntax (Err (TooLarge q)) = false
+is-syntax (Err (NotRising q)) = false
+
 -- no refusal of the syntax
 abbrev pub Clear : Outcome → Type 0
 Clear x = (q : ℕ) → x ≡ Err (Syntax q) → ⊥
 
+pub clear-from : (x : Outcome) → is-syntax x ≡ false → Clear x
+clear-from x h q e = false≢true (sym h ∙ ap is-syntax e)
+
 -- where the line may end, it is no longer a matter of syntax
-pub settled-clean : (l : Line) (over falls : ℕ) → Clear (settled l over falls)
-settled-clean l over falls q e =
-    ⊎-elim
-    (λ y.
-        let x = sym (cond-true (eqb over 0) (cond (eqb falls 0) (Ok l) (Err (NotRising falls))) (Err (TooLarge over)) y) ∙ e in
-        ⊎-elim
-        (λ y′. let k = sym (cond-true (eqb falls 0) (Ok l) (Err (NotRising falls)) y′) ∙ x in let o : _≡_ {A = ℕ} 0 1 = cc in omega arith)
-        (λ z. let k = sym (cond-false (eqb falls 0) (Ok l) (Err (NotRising falls)) z) ∙ x in let o : _≡_ {A = ℕ} 0 1 = cc in omega arith)
-        (cases-bool (eqb falls 0)))
-    (λ z. let k = sym (cond-false (eqb over 0) (cond (eqb falls 0) (Ok l) (Err (NotRising falls))) (Err (TooLarge over)) z) ∙ e in let o : _≡_ {A = ℕ} 0 1 = cc in omega arith)
-    (cases-bool (eqb over 0))
+pub settled-clear : (l : Line) (over falls : ℕ) → Clear (settled l over falls)
+settled-clear l over falls =
+    let P : Outcome → Type 0 = λ x. is-syntax x ≡ false in
+    clear-from (settled l over falls) (cond-both (eqb over 0) _ _ P (λ y. cond-both (eqb falls 0) _ _ P (λ y. refl) (λ z. refl)) (λ z. refl))
 
 abbrev pub above : Mark → Bool
 above m = ltb (m .limit) (m .value)

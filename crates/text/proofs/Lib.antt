@@ -4,3 +4,4 @@ pub mod Filled
 pub mod Verdicts
 pub mod Shapes
 pub mod Local
+pub mod Furthest

@@ -17,7 +17,7 @@ use Rattle.text.specs.Numerals.{value, starts, kept}
 use Rattle.text.specs.Forms.{Part, Values, word, number, wagons, rising}
 use Rattle.text.specs.Reading.{Outcome, Next, noted, take-word, take-number, take-numbers, wagons-of, values-of, many, scan}
 use Rattle.text.proofs.Numbers.{Ended, numbered, number-taken, number-refused}
-use Rattle.text.proofs.Filled.{settled-clean}
+use Rattle.text.proofs.Filled.{settled-clear}
 
 front-nil : (m : ℕ) (u : List ℕ) → take (suc m) u ≡ [] → u ≡ []
 front-nil m [] e = refl
@@ -46,7 +46,7 @@ starts-alike : (m : ℕ) (s u : List ℕ) → take (suc m) u ≡ take (suc m) s 
 starts-alike m [] u e = ap starts (front-nil m u e)
 starts-alike m (b ∷ s) u e = ap starts (front-cons m b s u e .1)
 
-same-place : (p q : ℕ) → _≡_ {A = Outcome} (Err (Syntax p)) (Err (Syntax q)) → p ≡ q
+pub same-place : (p q : ℕ) → _≡_ {A = Outcome} (Err (Syntax p)) (Err (Syntax q)) → p ≡ q
 same-place p q e = cc
 
 -- a refusal at q of what stands from p on holds of every text with the same front as far as q
@@ -135,7 +135,7 @@ local-numbers (suc n) most rise least next on (b ∷ s) p over falls q e =
 
 pub scan-local : (ps : List Part) (line : Values ps → Line) → Local (scan ps line)
 unfolding scan
-scan-local [] line [] p over falls q e = absurd (settled-clean (line tt) over falls q e)
+scan-local [] line [] p over falls q e = absurd (settled-clear (line tt) over falls q e)
 scan-local [] line (b ∷ s) p over falls q e =
     local-here (λ l. scan [] line l p over falls) (b ∷ s) p q (same-place p q e) (λ u f. ap (λ l. scan [] line l p over falls) (front-cons 0 b s u f .1))
 scan-local (word w ∷ ps) line s p over falls q e = local-word (scan ps line) (scan-local ps line) w s p over falls q e

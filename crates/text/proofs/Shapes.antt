@@ -19,7 +19,7 @@ use Rattle.text.specs.Numerals.{Numeral, starts}
 use Rattle.text.specs.Forms.{Part, Values, word, number, wagons, rising}
 use Rattle.text.specs.Reading.{Outcome, Next, take-word, take-number, take-numbers, wagons-of, values-of, many, scan}
 use Rattle.text.specs.Meaning.{Filling, Proper, blank-digits, filled}
-use Rattle.text.proofs.Filled.{Clear, settled-clean}
+use Rattle.text.proofs.Filled.{Clear, settled-clear}
 use Rattle.text.proofs.Numbers.{Numbered, numbered, number-taken, number-refused}
 
 abbrev pub Texts : Type 1
@@ -133,7 +133,7 @@ module _ (L : Texts) (some : Some L) where
       (λ z. tells-after L M [] (lists-none (suc n)) (b ∷ s) p p _ (omega arith) (on [] (b ∷ s) p over falls))
 
 -- every form can be filled
-complete : (ps : List Part) → Some (Of ps)
+pub complete : (ps : List Part) → Some (Of ps)
 complete [] = ([], (tt, (tt, refl)))
 complete (word w ∷ ps) = let (t, (r, (h, e))) = complete ps in (w ++ t, (r, (h, ap (λ l. w ++ l) e)))
 complete (number most ∷ ps) = let (t, (r, (h, e))) = complete ps in (48 ∷ t, ((48 ∷ [], r), ((inl (refl, refl), h), ap (λ l. 48 ∷ l) e)))
@@ -146,7 +146,7 @@ tells-weaker L M to s p x h = tells-after L M [] to s p p x (omega arith) h
 -- the reader stops in a text that begins the form, or it does not, and the text has the form
 pub scan-tells : (ps : List Part) (line : Values ps → Line) → Told (Of ps) (scan ps line)
 unfolding scan
-scan-tells [] line [] p over falls = inr ((tt, (tt, refl)), settled-clean (line tt) over falls)
+scan-tells [] line [] p over falls = inr ((tt, (tt, refl)), settled-clear (line tt) over falls)
 scan-tells [] line (b ∷ s) p over falls = tells-here (Of []) (complete []) (b ∷ s) p _ refl
 scan-tells (word w ∷ ps) line s p over falls =
     tells-weaker (Worded w (Of ps)) (Of (word w ∷ ps)) (λ s (t, (r, (h, e)), f). (r, (h, f ∙ ap (λ l. w ++ l) e))) s p _
