@@ -5,10 +5,9 @@ use mathlib.Core.Logic.{_⊎_, inl, inr, ⊎-elim}
 use mathlib.Core.List.{List, [], _∷_, _++_}
 use Prim.Native.Nat.{ℕ, zero, suc, max, _+_, _-_, _*_, _≤_, _<_}
 use native.Mathlib.Omega.{arith}
-use lib.Dec.{eqb}
 use lib.ListN.{length, take, getD}
 use Rattle.std.proofs.shelf.Lists.{length-append, length-take-le, getD-append-left, take-append-le, take-take, take-all}
-use Rattle.std.proofs.shelf.Tests.{cases-lt, eqb-false}
+use Rattle.std.proofs.shelf.Tests.{cases-lt}
 use Rattle.std.proofs.shelf.Elements.{all-has, all-weaker}
 use Rattle.std.specs.shelf.Lists.{All, Has}
 use Rattle.std.specs.declared.result.Result.the-variants.{Ok, Err}
@@ -51,7 +50,7 @@ Good f = (parted (f .parts) ≡ true) × (3 ≤ length (lead (f .parts)))
 
 abbrev pub Apart : List Form → Type 0
 Apart [] = Unit {0}
-Apart (f ∷ fs) = All (λ g. eqb (key (lead (f .parts))) (key (lead (g .parts))) ≡ false) fs × Apart fs
+Apart (f ∷ fs) = All (λ g. key (lead (f .parts)) ≡ key (lead (g .parts)) → ⊥) fs × Apart fs
 
 key-filled : (ps : List Part) (r : Filling ps) → 3 ≤ length (lead ps) → key (filled ps r) ≡ key (lead ps)
 key-filled [] r le = absurd (omega arith)
@@ -176,3 +175,84 @@ stops-one (f ∷ fs) s q e =
 
 abbrev pub shape : (fs : List Form) (f : Form) → Has fs f → (s : List ℕ) → Of (f .parts) s → Shape fs s
 shape fs f h s o = record { form = f; among = h; filling = o .0; proper = o .1 .0; is = o .1 .1 }
+
+module _ (fs : List Form) (good : All Good fs) (s : List ℕ) (short : length s ≤ 512) where
+  -- where all forms stop, no form goes on
+  pub forms-stop : (f : Form) → Has fs f → (q : ℕ) → by-forms fs s ≡ Err (Syntax q) → Stops fs s q
+  forms-stop f has q e =
+      let each = stops-all fs s q e in
+      let first-place : (q ≡ 1) → ((1 ≤ q) × (q ≤ length s + 1)) × Begins fs (take (q - 1) s) = λ z.
+          let k : 0 ≡ q - 1 = omega arith in
+          let (t, o) = complete (f .parts) in
+          (omega arith, subst (λ n. Begins fs (take n s)) k (t, shape fs f has t o))
+      in
+      let later : (g : Form) × Has fs g × (by-form g s ≡ Err (Syntax q)) → ((1 ≤ q) × (q ≤ length s + 1)) × Begins fs (take (q - 1) s) = λ (g, h, z).
+          let (lo, hi, t, o) = stopped g (all-has Good fs g good h) s q z in
+          ((lo, hi), (t, shape fs g h (take (q - 1) s ++ t) o))
+      in
+      let b = ⊎-elim first-place later (stops-one fs s q e) in
+      record {
+        some = b .0 .0;
+        most = b .0 .1;
+        before = b .1;
+        here = λ le (t, h).
+            let g = h .form in
+            let (p, lp, x) = all-has (Refused s q) fs g each (h .among) in
+            near-clear g (all-has Good fs g good (h .among)) (take q s ++ t) p (h .filling, (h .proper, h .is)) (omega arith)
+            (form-local g (all-has Good fs g good (h .among)) s t p q x lp le);
+        whole = λ h.
+            let g = h .form in
+            let (p, lp, x) = all-has (Refused s q) fs g each (h .among) in
+            form-clear g (all-has Good fs g good (h .among)) s short (h .filling, (h .proper, h .is)) p x;
+      }
+
+past-clear : (p : ℕ) (y : Outcome) → Clear (further (Err (Syntax p)) y) → Clear y
+past-clear p y c q e = c (max p q) (ap (further (Err (Syntax p))) e)
+
+-- what the forms make of a text that they do not refuse for its syntax, one of them makes of it
+pub forms-shape : (fs : List Form) (s : List ℕ) → Clear (by-forms fs s) → (f : Form) × Has fs f × (by-form f s ≡ by-forms fs s)
+forms-shape [] s c = absurd (c 1 refl)
+forms-shape (f ∷ fs) s c =
+    ⊎-elim
+    (λ (p, e).
+        let x : by-forms (f ∷ fs) s ≡ further (Err (Syntax p)) (by-forms fs s) = ap (λ o. further o (by-forms fs s)) e in
+        let d : Clear (by-forms fs s) = past-clear p (by-forms fs s) (subst Clear x c) in
+        let (g, h, y) = forms-shape fs s d in
+        (g, has-tail f fs g h, y ∙ sym (x ∙ further-past p (by-forms fs s) d)))
+    (λ d. (f, has-head f fs, sym (further-clear (by-form f s) (by-forms fs s) d)))
+    (syntax-cases (by-form f s))
+
+-- that form is the text's own
+pub form-of : (f : Form) (s : List ℕ) → Clear (by-form f s) → Of (f .parts) s
+form-of f s c =
+    ⊎-elim
+    (λ h. absurd (c (h .at) (h .is)))
+    (λ h. h .0)
+    (scan-tells (f .parts) (f .line) s 1 0 0)
+
+-- a text of one of the forms is read by that form
+pub forms-own : (fs : List Form) → All Good fs → Apart fs → (s : List ℕ) → length s ≤ 512 → (f : Form) → Has fs f → Of (f .parts) s → by-forms fs s ≡ by-form f s
+forms-own [] good apart s short f has o = absurd (omega (arith, has .1))
+forms-own (g ∷ fs) good apart s short f has o =
+    let c : Clear (by-form f s) = form-clear f (all-has Good (g ∷ fs) f good has) s short o in
+    let own : g ≡ f → by-forms (g ∷ fs) s ≡ by-form f s = λ e.
+        let x = ap (λ k. by-form k s) e in
+        further-clear (by-form g s) (by-forms fs s) (subst Clear (sym x) c) ∙ x
+    in
+    let other : Has fs f → by-forms (g ∷ fs) s ≡ by-form f s = λ h.
+        let ih = forms-own fs (good .1) (apart .1) s short f h o in
+        ⊎-elim
+        (λ (p, e). ap (λ y. further y (by-forms fs s)) e ∙ further-past p (by-forms fs s) (subst Clear (sym ih) c) ∙ ih)
+        (λ d.
+            let a = all-has (λ k. key (lead (g .parts)) ≡ key (lead (k .parts)) → ⊥) fs f (apart .0) h in
+            absurd (a (sym (key-of g (good .0) s (form-of g s d)) ∙ key-of f (all-has Good fs f (good .1) h) s o)))
+        (syntax-cases (by-form g s))
+    in
+    ⊎-elim own other (has-cases g fs f has)
+
+pub forms-good : All Good forms
+forms-good =
+    ((refl, omega arith), ((refl, omega arith), ((refl, omega arith), ((refl, omega arith), ((refl, omega arith), ((refl, omega arith), ((refl, omega arith), tt)))))))
+
+pub forms-apart : Apart forms
+forms-apart = omega arith
