@@ -5,3 +5,4 @@ pub mod Verdicts
 pub mod Shapes
 pub mod Local
 pub mod Furthest
+pub mod Right
