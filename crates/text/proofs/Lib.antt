@@ -1,6 +1,13 @@
 pub mod Steps
 pub mod Readers
 pub mod Fillings
+pub mod Numbers
+pub mod Filled
+pub mod Verdicts
+pub mod Shapes
+pub mod Local
+pub mod Furthest
+pub mod Right
 pub mod Phases
 pub mod Decimals
 pub mod Values

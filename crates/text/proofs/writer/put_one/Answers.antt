@@ -1,0 +1,4 @@
+use Rattle.text.proofs.writer.put_one.Needs as need
+
+pub returns : need.returns
+returns c = ?
