@@ -1,4 +1,4 @@
--- Reading a text gives what it says, where the value side of the forms is given. Assumes nothing.
+-- Reading a text gives what it says, and nothing else is said. Assumes nothing.
 use mathlib.Core.Path.{_≡_, refl, sym, ap, subst, _∙_}
 use mathlib.Core.Bool.{Bool, true, false, cond}
 use mathlib.Core.Logic.{_⊎_, inl, inr, ⊎-elim}
@@ -19,6 +19,7 @@ use Rattle.text.specs.Forms.{Part, Form, Values, spelled, text, forms, order-f
 use Rattle.text.specs.Reading.{Outcome, by-form, by-forms, read}
 use Rattle.text.specs.Meaning.{Filling, Proper, filled, Mark, marks, Shape, Begins, Stops, FirstAt, Above, Falls, numbers, Within, Says, Reads-right}
 use Rattle.text.proofs.Fillings.{meant, Sized}
+use Rattle.text.proofs.Values.{filled-spelled, spelled-filled, small-form, text-form, formed, length-text}
 use Rattle.text.proofs.Filled.{Clear}
 use Rattle.text.proofs.Verdicts.{Not, Verdict, fine, large, falling, first-none, first-one}
 use Rattle.text.proofs.Furthest.{syntax-cases, shape, forms-stop, forms-shape, form-of, form-verdict, forms-own, Good, forms-good, forms-apart}
@@ -26,46 +27,6 @@ use Rattle.text.proofs.Furthest.{syntax-cases, shape, forms-stop, forms-shape,
 -- no number is above its limit, and none falls
 abbrev pub Sound : List Mark → Type 0
 Sound ms = All (Not Above) ms × All (Not Falls) ms
-
--- what a filling with sound numbers means, its text spells
-abbrev pub Spells : Type 0
-Spells =
-    (ps : List Part) (r : Filling ps) → Proper ps r → (p : ℕ) → All (Not Above) (marks ps r p) → All (Not Falls) (marks ps r p)
-    → (filled ps r ≡ spelled ps (meant ps r)) × Sized ps (meant ps r)
-
--- all values are meant by such a filling
-abbrev pub Fills : Type 0
-Fills =
-    (ps : List Part) (v : Values ps) → Sized ps v
-    → (r : Filling ps) × (Proper ps r × ((filled ps r ≡ spelled ps v) × ((meant ps r ≡ v) × ((p : ℕ) → Sound (marks ps r p)))))
-
--- no line's text is too long
-abbrev pub Short : Type 0
-Short = (l : Line) → Within l → length (text l) ≤ 512
-
--- a form's line has the text that the form spells
-abbrev Lines : Form → Type 0
-Lines f = (v : Values (f .parts)) → Sized (f .parts) v → Within (f .line v) × (spelled (f .parts) v ≡ text (f .line v))
-
-forms-lines : All Lines forms
-forms-lines = (λ v h. (tt, refl), (λ v h. (tt, refl), (λ v h. (h .0, refl), (λ v h. (tt, refl), (λ v h. (tt, refl), (λ v h. (tt, refl), (λ v h. (tt, refl), tt)))))))
-
--- every line comes from a form
-pub record Comes-from (l : Line) : Type 0 where
-  pub form : Form
-  pub among : Has forms form
-  pub values : Values (form .parts)
-  pub sized : Sized (form .parts) values
-  pub is : form .line values ≡ l
-
-line-comes : (l : Line) → Within l → Comes-from l
-line-comes (Order o) w = record { form = order-form; among = (0, omega arith, λ d. refl); values = (o .number, (o .mode, (o .wagon, (o .to, (o .wagons, (o .toll .minutes, (o .toll .class, tt))))))); sized = tt; is = refl }
-line-comes (Notice n) w = record { form = notice-form; among = (1, omega arith, λ d. refl); values = (n .number, (n .mode, (n .to, (n .loses, (n .gains, (n .toll .minutes, (n .toll .class, tt))))))); sized = tt; is = refl }
-line-comes (Open F) w = record { form = open-form; among = (2, omega arith, λ d. refl); values = (F, tt); sized = (w, tt); is = refl }
-line-comes (Watch a) w = record { form = watch-form; among = (3, omega arith, λ d. refl); values = (a .mode, (a .wagon, (a .node, tt))); sized = tt; is = refl }
-line-comes (Link a) w = record { form = link-form; among = (4, omega arith, λ d. refl); values = (a .node, (a .wagon, (a .to, tt))); sized = tt; is = refl }
-line-comes (End t) w = record { form = end-form; among = (5, omega arith, λ d. refl); values = (t, tt); sized = tt; is = refl }
-line-comes (Bare p) w = record { form = bare-form; among = (6, omega arith, λ d. refl); values = (p, tt); sized = tt; is = refl }
 
 -- a verdict is the only one
 fine-is : (l : Line) (ms : List Mark) (x : Outcome) → Sound ms → Verdict l ms x → Ok l ≡ x
@@ -130,60 +91,58 @@ module _ (s : List ℕ) (short : length s ≤ 512) where
       (λ c. absurd (st .whole (shape-found c)))
       (syntax-cases (by-forms forms s))
 
-module _ (spells : Spells) (fills : Fills) (brief : Short) where
-  -- a text of a form with sound numbers is the text of its line
-  fine-says : (s : List ℕ) (h : Shape forms s) → Sound (numbers h) → Within (line-of h) × (s ≡ text (line-of h))
-  fine-says s h sound =
-      let f = h .form in
-      let (e, sized) = spells (f .parts) (h .filling) (h .proper) 1 (sound .0) (sound .1) in
-      let (w, t) = all-has Lines forms f forms-lines (h .among) (meant (f .parts) (h .filling)) sized in
-      (w, h .is ∙ e ∙ t)
+-- a text of a form with sound numbers is the text of its line
+fine-says : (s : List ℕ) (h : Shape forms s) → Sound (numbers h) → Within (line-of h) × (s ≡ text (line-of h))
+fine-says s h sound =
+    let f = h .form in
+    let (e, sized) = filled-spelled (f .parts) (small-form f (h .among)) (h .filling) (h .proper) 1 (sound .0) (sound .1) in
+    let (w, t) = text-form f (h .among) (meant (f .parts) (h .filling)) sized in
+    (w, h .is ∙ e ∙ sym t)
 
-  -- and the text of a line is such a text
-  text-shape : (l : Line) → Within l → (h : Shape forms (text l)) × Sound (numbers h) × (line-of h ≡ l)
-  text-shape l w =
-      let c = line-comes l w in
-      let f = c .form in
-      let (r, (proper, (e, (m, sound)))) = fills (f .parts) (c .values) (c .sized) in
-      let t = all-has Lines forms f forms-lines (c .among) (c .values) (c .sized) .1 in
-      (shape forms f (c .among) (text l) (r, (proper, ap text (sym (c .is)) ∙ sym t ∙ sym e)), sound 1, ap (f .line) m ∙ c .is)
+-- and the text of a line is such a text
+text-shape : (l : Line) → Within l → (h : Shape forms (text l)) × Sound (numbers h) × (line-of h ≡ l)
+text-shape l w =
+    let c = formed l w in
+    let f = c .form in
+    let (r, (proper, (e, (m, sound)))) = spelled-filled (f .parts) (small-form f (c .among)) (c .values) (c .sized) in
+    (shape forms f (c .among) (text l) (r, (proper, c .text-is ∙ sym e)), sound 1, ap (f .line) m ∙ c .line-is)
 
-  verdict-says : (s : List ℕ) → length s ≤ 512 → (h : Shape forms s) (x : Outcome) → Verdict (line-of h) (numbers h) x → Says s x
-  verdict-says s le h x (fine a b e) = subst (Says s) (sym e) (fine-says s h (a, b))
-  verdict-says s le h x (large q f e) = subst (Says s) (sym e) (le, (h, f))
-  verdict-says s le h x (falling q a f e) = subst (Says s) (sym e) (le, (h, (a, f)))
+verdict-says : (s : List ℕ) → length s ≤ 512 → (h : Shape forms s) (x : Outcome) → Verdict (line-of h) (numbers h) x → Says s x
+verdict-says s le h x (fine a b e) = subst (Says s) (sym e) (fine-says s h (a, b))
+verdict-says s le h x (large q f e) = subst (Says s) (sym e) (le, (h, f))
+verdict-says s le h x (falling q a f e) = subst (Says s) (sym e) (le, (h, (a, f)))
 
-  -- what the forms make of a text of at most 512 bytes, it says
-  forms-say : (s : List ℕ) → length s ≤ 512 → Says s (by-forms forms s)
-  forms-say s le =
-      ⊎-elim
-      (λ (q, e). subst (Says s) (sym e) (inr (le, place-found s le q e)))
-      (λ c. let h = shape-found s le c in verdict-says s le h (by-forms forms s) (shape-verdict s le h))
-      (syntax-cases (by-forms forms s))
+-- what the forms make of a text of at most 512 bytes, it says
+forms-say : (s : List ℕ) → length s ≤ 512 → Says s (by-forms forms s)
+forms-say s le =
+    ⊎-elim
+    (λ (q, e). subst (Says s) (sym e) (inr (le, place-found s le q e)))
+    (λ c. let h = shape-found s le c in verdict-says s le h (by-forms forms s) (shape-verdict s le h))
+    (syntax-cases (by-forms forms s))
 
-  text-reads : (l : Line) → Within l → Ok l ≡ by-forms forms (text l)
-  text-reads l w =
-      let (h, sound, e) = text-shape l w in
-      ap Ok (sym e) ∙ fine-is (line-of h) (numbers h) (by-forms forms (text l)) sound (shape-verdict (text l) (brief l w) h)
+text-reads : (l : Line) → Within l → Ok l ≡ by-forms forms (text l)
+text-reads l w =
+    let (h, sound, e) = text-shape l w in
+    ap Ok (sym e) ∙ fine-is (line-of h) (numbers h) (by-forms forms (text l)) sound (shape-verdict (text l) (length-text l w) h)
 
-  -- and it says nothing else
-  forms-only : (s : List ℕ) → length s ≤ 512 → (x : Outcome) → Says s x → x ≡ by-forms forms s
-  forms-only s le (Ok l) (w, e) = text-reads l w ∙ ap (by-forms forms) (sym e)
-  forms-only s le (Err (Syntax q)) (inl long) = absurd (omega (arith, long .0))
-  forms-only s le (Err (Syntax q)) (inr st) = syntax-is s le q (st .1)
-  forms-only s le (Err (TooLarge q)) (_, (h, f)) = large-is (line-of h) (numbers h) (by-forms forms s) q f (shape-verdict s le h)
-  forms-only s le (Err (NotRising q)) (_, (h, (a, f))) = falling-is (line-of h) (numbers h) (by-forms forms s) q a f (shape-verdict s le h)
+-- and it says nothing else
+forms-only : (s : List ℕ) → length s ≤ 512 → (x : Outcome) → Says s x → x ≡ by-forms forms s
+forms-only s le (Ok l) (w, e) = text-reads l w ∙ ap (by-forms forms) (sym e)
+forms-only s le (Err (Syntax q)) (inl long) = absurd (omega (arith, long .0))
+forms-only s le (Err (Syntax q)) (inr st) = syntax-is s le q (st .1)
+forms-only s le (Err (TooLarge q)) (_, (h, f)) = large-is (line-of h) (numbers h) (by-forms forms s) q f (shape-verdict s le h)
+forms-only s le (Err (NotRising q)) (_, (h, (a, f))) = falling-is (line-of h) (numbers h) (by-forms forms s) q a f (shape-verdict s le h)
 
-  -- a longer text is refused at its byte 513
-  long-only : (s : List ℕ) → 512 < length s → (x : Outcome) → Says s x → x ≡ Err (Syntax 513)
-  long-only s lt (Ok l) (w, e) = absurd (omega (arith, brief l w, ap length e))
-  long-only s lt (Err (Syntax q)) (inl long) = ap (λ (n : ℕ). Err (Syntax n)) (long .1)
-  long-only s lt (Err (Syntax q)) (inr st) = absurd (omega (arith, st .0))
-  long-only s lt (Err (TooLarge q)) (le, h) = absurd (omega arith)
-  long-only s lt (Err (NotRising q)) (le, h) = absurd (omega arith)
+-- a longer text is refused at its byte 513
+long-only : (s : List ℕ) → 512 < length s → (x : Outcome) → Says s x → x ≡ Err (Syntax 513)
+long-only s lt (Ok l) (w, e) = absurd (omega (arith, length-text l w, ap length e))
+long-only s lt (Err (Syntax q)) (inl long) = ap (λ (n : ℕ). Err (Syntax n)) (long .1)
+long-only s lt (Err (Syntax q)) (inr st) = absurd (omega (arith, st .0))
+long-only s lt (Err (TooLarge q)) (le, h) = absurd (omega arith)
+long-only s lt (Err (NotRising q)) (le, h) = absurd (omega arith)
 
-  pub reads-right : Reads-right
-  reads-right s =
-      cond-both (ltb 512 (length s)) (Err (Syntax 513)) (by-forms forms s) (λ y. Says s y × ((x : Outcome) → Says s x → x ≡ y))
-      (λ long. let lt = ltb-true 512 (length s) long in (inl (lt, refl), long-only s lt))
-      (λ short. let le = ltb-false 512 (length s) short in (forms-say s le, forms-only s le))
+pub reads-right : Reads-right
+reads-right s =
+    cond-both (ltb 512 (length s)) (Err (Syntax 513)) (by-forms forms s) (λ y. Says s y × ((x : Outcome) → Says s x → x ≡ y))
+    (λ long. let lt = ltb-true 512 (length s) long in (inl (lt, refl), long-only s lt))
+    (λ short. let le = ltb-false 512 (length s) short in (forms-say s le, forms-only s le))

@@ -1,8 +1,11 @@
 -- What is left to read of a line, as a reader has it.
 use mathlib.Core.Path.{_≡_}
 use mathlib.Core.Bool.{Bool, true, cond}
-use Prim.Native.Nat.{ℕ, min, suc, _+_}
-use mathlib.Core.List.{List, [], _∷_}
+use Prim.Native.Nat.{ℕ, min, max, suc, _+_}
+use lib.Chars.{codes}
+use lib.Dec.{eqb}
+use denote.Ref.{RefT}
+use mathlib.Core.List.{List, [], _∷_, _++_}
 use Rattle.std.specs.declared.option.Option.{Option}
 use Rattle.std.specs.declared.option.Option.the-variants.{Some, None}
 use Rattle.grade.specs.declared.upto.UpTo.{UpTo}
@@ -54,3 +57,19 @@ pub record NumberOff (before after : LineReader) (n : ℕ) : Type 0 where
   pub rest : after .rest .now ≡ numeral (before .place) (before .rest .now) .rest
   pub over : after .over ≡ before .over
   pub falls : after .falls ≡ before .falls
+
+-- the rest r of a line s behind w, where s begins with w
+abbrev pub Behind : List ℕ → List ℕ → Option (RefT (List ℕ)) → Type 0
+Behind w s None = (t : List ℕ) → s ≡ w ++ t → ⊥
+Behind w s (Some r) = s ≡ w ++ r .now
+
+-- how many bytes w and s have in common from the front
+abbrev pub agree : List ℕ → List ℕ → ℕ
+agree [] s = 0
+agree (a ∷ w) [] = 0
+agree (a ∷ w) (b ∷ s) = cond (eqb a b) (1 + agree w s) 0
+
+-- the most that a form's name has in common with s
+abbrev pub furthest : List ℕ → ℕ
+furthest s =
+    max (max (max (max (max (max (agree (codes "(order ") s) (agree (codes "(notice ") s)) (agree (codes "(open") s)) (agree (codes "(watch ") s)) (agree (codes "(link ") s)) (agree (codes "(end ") s)) (agree (codes "(bare ") s)

@@ -3,3 +3,4 @@ pub mod line;
 mod line_reader;
 pub mod reader;
 pub mod refusal;
+pub mod writer;

@@ -2,7 +2,7 @@
 ghost use mathlib.Core.Path.{_≡_};
 ghost use mathlib.Core.Bool.{Bool, false, cond};
 ghost use mathlib.Core.List.{List, [], _∷_};
-ghost use Prim.Native.Nat.{ℕ, suc, _^_};
+ghost use Prim.Native.Nat.{ℕ, suc, _+_, _^_};
 ghost use lib.Chars.{codes};
 ghost use Rattle.std.specs.Results.{Cases};
 ghost use Rattle.std.specs.declared.result.Result.the-variants.{Err};
@@ -11,8 +11,9 @@ ghost use Rattle.text.specs.declared.line.Line.{Line};
 ghost use Rattle.text.specs.declared.refusal.LineRefusal.the-variants.{Syntax};
 ghost use Rattle.text.specs.Numerals.{kept, starts};
 ghost use Rattle.text.specs.Forms.{Part, Values, word, number, wagons, rising, toll-parts, bare-tail, bare-of, end-tail, end-of, watch-tail, watch-of, link-tail, link-of, order-tail, order-of, notice-tail, notice-of, open-tail, open-of};
-ghost use Rattle.text.specs.Reading.{Next, noted};
-ghost use Rattle.text.specs.Steps.{DigitsOff, NumberOff, scanned, word-then, number-then, goes-on, numbers-then, another-then, after-another};
+ghost use Rattle.text.specs.Reading.{Next, Outcome, noted, read};
+ghost use Rattle.text.specs.Meaning.{Says};
+ghost use Rattle.text.specs.Steps.{DigitsOff, NumberOff, scanned, word-then, number-then, goes-on, numbers-then, another-then, after-another, Behind, agree, furthest};
 use crate::line::Line;
 use crate::line::LinkLine;
 use crate::line::NoticeLine;
@@ -336,4 +337,139 @@ fn first_noted(place: usize, here: usize, now: bool) -> usize
     } else {
         0
     }
+}
+
+// What stands behind `(order `.
+fn after_order(line: &[u8]) -> Option<&[u8]>
+    ensures { λ r. ⌜ Behind (codes "(order ") (now (line .entry)) r ⌝ }
+{
+    match line {
+        [b'(', b'o', b'r', b'd', b'e', b'r', b' ', rest @ ..] => Some(rest),
+        _ => None,
+    }
+}
+
+// What stands behind `(notice `.
+fn after_notice(line: &[u8]) -> Option<&[u8]>
+    ensures { λ r. ⌜ Behind (codes "(notice ") (now (line .entry)) r ⌝ }
+{
+    match line {
+        [b'(', b'n', b'o', b't', b'i', b'c', b'e', b' ', rest @ ..] => Some(rest),
+        _ => None,
+    }
+}
+
+// What stands behind `(open`.
+fn after_open(line: &[u8]) -> Option<&[u8]>
+    ensures { λ r. ⌜ Behind (codes "(open") (now (line .entry)) r ⌝ }
+{
+    match line {
+        [b'(', b'o', b'p', b'e', b'n', rest @ ..] => Some(rest),
+        _ => None,
+    }
+}
+
+// What stands behind `(watch `.
+fn after_watch(line: &[u8]) -> Option<&[u8]>
+    ensures { λ r. ⌜ Behind (codes "(watch ") (now (line .entry)) r ⌝ }
+{
+    match line {
+        [b'(', b'w', b'a', b't', b'c', b'h', b' ', rest @ ..] => Some(rest),
+        _ => None,
+    }
+}
+
+// What stands behind `(link `.
+fn after_link(line: &[u8]) -> Option<&[u8]>
+    ensures { λ r. ⌜ Behind (codes "(link ") (now (line .entry)) r ⌝ }
+{
+    match line {
+        [b'(', b'l', b'i', b'n', b'k', b' ', rest @ ..] => Some(rest),
+        _ => None,
+    }
+}
+
+// What stands behind `(end `.
+fn after_end(line: &[u8]) -> Option<&[u8]>
+    ensures { λ r. ⌜ Behind (codes "(end ") (now (line .entry)) r ⌝ }
+{
+    match line {
+        [b'(', b'e', b'n', b'd', b' ', rest @ ..] => Some(rest),
+        _ => None,
+    }
+}
+
+// What stands behind `(bare `.
+fn after_bare(line: &[u8]) -> Option<&[u8]>
+    ensures { λ r. ⌜ Behind (codes "(bare ") (now (line .entry)) r ⌝ }
+{
+    match line {
+        [b'(', b'b', b'a', b'r', b'e', b' ', rest @ ..] => Some(rest),
+        _ => None,
+    }
+}
+
+// How many bytes two texts have in common from the front.
+fn agreeing(word: &[u8], line: &[u8]) -> usize
+    ensures { λ r. ⌜ r ≡ agree (now (word .entry)) (now (line .entry)) ⌝ }
+{
+    let mut n = 0;
+    while n < word.len() && n < line.len() && word[n] == line[n] {
+        n += 1;
+    }
+    n
+}
+
+// The first place at which no form's name goes on.
+fn unnamed(line: &[u8]) -> usize
+    ensures { λ r. ⌜ r ≡ 1 + furthest (now (line .entry)) ⌝ }
+{
+    let mut most = agreeing(b"(order ", line);
+    most = most.max(agreeing(b"(notice ", line));
+    most = most.max(agreeing(b"(open", line));
+    most = most.max(agreeing(b"(watch ", line));
+    most = most.max(agreeing(b"(link ", line));
+    most = most.max(agreeing(b"(end ", line));
+    most = most.max(agreeing(b"(bare ", line));
+    1 + most
+}
+
+// What the form that the line names makes of it.
+fn read_named(line: &[u8]) -> Result<Line, LineRefusal>
+    ensures { λ r. ⌜ r ≡ read (now (line .entry)) ⌝ }
+{
+    if line.len() > 512 {
+        return Err(LineRefusal::Syntax(513));
+    }
+    if let Some(rest) = after_order(line) {
+        return LineReader { rest, place: 8, over: 0, falls: 0 }.order();
+    }
+    if let Some(rest) = after_notice(line) {
+        return LineReader { rest, place: 9, over: 0, falls: 0 }.notice();
+    }
+    if let Some(rest) = after_open(line) {
+        return LineReader { rest, place: 6, over: 0, falls: 0 }.phase();
+    }
+    if let Some(rest) = after_watch(line) {
+        return LineReader { rest, place: 8, over: 0, falls: 0 }.watch();
+    }
+    if let Some(rest) = after_link(line) {
+        return LineReader { rest, place: 7, over: 0, falls: 0 }.link();
+    }
+    if let Some(rest) = after_end(line) {
+        return LineReader { rest, place: 6, over: 0, falls: 0 }.end_node();
+    }
+    if let Some(rest) = after_bare(line) {
+        return LineReader { rest, place: 7, over: 0, falls: 0 }.bare();
+    }
+    Err(LineRefusal::Syntax(unnamed(line)))
+}
+
+// What a line of the book says, or why and where it is refused.
+pub fn read_line(line: &[u8]) -> Result<Line, LineRefusal>
+    ensures value { λ r. ⌜ r ≡ read (now (line .entry)) ⌝ }
+    ensures says { λ r. ⌜ Says (now (line .entry)) r ⌝ }
+    ensures alone { λ r. ⌜ ((x : Outcome) → Says (now (line .entry)) x → x ≡ r) ⌝ }
+{
+    read_named(line)
 }
