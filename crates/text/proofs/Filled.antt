@@ -154,8 +154,8 @@ module _ (most : ℕ) (rise : Bool) (t : List ℕ) (no-digit : starts t ≡ fals
       let o : ℕ = noted over (p + 1) (ltb most (value ds)) in
       let f : ℕ = noted falls (p + 1) (ltb (x .value) least) in
       let e =
-          ap (λ l. take-number most least l (p + 1) over falls on) (append-assoc ds u t)
-          ∙ number-taken most least ds (u ++ t) (p + 1) over falls on (h .0) (list-ended ds dss t no-digit)
+      ap (λ l. take-number most least l (p + 1) over falls on) (append-assoc ds u t)
+      ∙ number-taken most least ds (u ++ t) (p + 1) over falls on (h .0) (list-ended ds dss t no-digit)
       in
       let some = numeral-some ds (h .0) in
       let m = numbers-left n dss (h .1) (omega arith) (cond rise (x .value + 1) 0) (p + 1 + length ds) o f (λ xs. next (x ∷ xs)) in

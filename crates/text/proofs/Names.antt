@@ -47,15 +47,15 @@ word-fails (a ∷ w) [] p over falls next other = ap (λ (n : ℕ). Err (Syntax 
 word-fails (a ∷ w) (b ∷ s) p over falls next other =
     ⊎-elim
     (λ y.
-        let e = eqb-true b a y in
-        cond-true (eqb b a) (take-word w s (p + 1) over falls next) (Err (Syntax p)) y
-        ∙ word-fails w s (p + 1) over falls next (λ t h. other t (λ i. e i ∷ h i))
-        ∙ ap (λ (n : ℕ). Err (Syntax n)) (let z : p + 1 + agree w s ≡ p + (1 + agree w s) = omega arith in z)
-        ∙ ap (λ (n : ℕ). Err (Syntax (p + n))) (sym (cond-true (eqb a b) (1 + agree w s) 0 (eq-eqb a b (sym e)))))
+    let e = eqb-true b a y in
+    cond-true (eqb b a) (take-word w s (p + 1) over falls next) (Err (Syntax p)) y
+    ∙ word-fails w s (p + 1) over falls next (λ t h. other t (λ i. e i ∷ h i))
+    ∙ ap (λ (n : ℕ). Err (Syntax n)) (let z : p + 1 + agree w s ≡ p + (1 + agree w s) = omega arith in z)
+    ∙ ap (λ (n : ℕ). Err (Syntax (p + n))) (sym (cond-true (eqb a b) (1 + agree w s) 0 (eq-eqb a b (sym e)))))
     (λ y.
-        cond-false (eqb b a) (take-word w s (p + 1) over falls next) (Err (Syntax p)) y
-        ∙ ap (λ (n : ℕ). Err (Syntax n)) (let z : p ≡ p + 0 = omega arith in z)
-        ∙ ap (λ (n : ℕ). Err (Syntax (p + n))) (sym (cond-false (eqb a b) (1 + agree w s) 0 (ne-eqb a b (λ e. both-ways (eqb b a) y (eq-eqb b a (sym e)))))))
+    cond-false (eqb b a) (take-word w s (p + 1) over falls next) (Err (Syntax p)) y
+    ∙ ap (λ (n : ℕ). Err (Syntax n)) (let z : p ≡ p + 0 = omega arith in z)
+    ∙ ap (λ (n : ℕ). Err (Syntax (p + n))) (sym (cond-false (eqb a b) (1 + agree w s) 0 (ne-eqb a b (λ e. both-ways (eqb b a) y (eq-eqb b a (sym e)))))))
     (cases-bool (eqb b a))
 
 pub max-most : {m a b : ℕ} (n : ℕ) → m ≡ max a b → a ≤ n → b ≤ n → m ≤ n

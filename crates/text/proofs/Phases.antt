@@ -55,6 +55,7 @@ with-below (suc n) F =
     sym (split n F ∙ ap (λ b. b * 2 ^ n + F % 2 ^ n) b ∙ ap (λ x. x + F % 2 ^ n) (zero-mul (2 ^ n)) ∙ zero-add (F % 2 ^ n)))
 
 pub with-members : (F : ℕ) → F < 2 ^ 64 → with-all 0 (members F) ≡ F
+unfolding members
 with-members F lt = with-below 64 F ∙ mod-eq-of-lt lt
 
 -- the members rise
@@ -75,6 +76,7 @@ rising-below (suc n) F =
     (λ e. rw append-nil (rising-more 0 n (members-below n F) (rising-below n F)))
 
 pub rising-members : (F : ℕ) → Rising 0 64 (members F)
+unfolding members
 rising-members F = rising-below 64 F
 
 -- how many there are
@@ -87,6 +89,7 @@ length-below (suc n) F =
     (λ e. omega (arith, length-append (members-below n F) [], length-below n F))
 
 pub length-members : (F : ℕ) → length (members F) ≤ 64
+unfolding members
 length-members F = length-below 64 F
 
 -- rising numbers make a phase
@@ -146,4 +149,5 @@ members-with least top set (n ∷ ns) lt le r =
     ∙ append-assoc (members-below least set) (n ∷ []) ns
 
 pub members-with-all : (ns : List ℕ) → Rising 0 64 ns → members (with-all 0 ns) ≡ ns
+unfolding members
 members-with-all ns r = members-with 0 64 0 ns (omega arith) (omega arith) r

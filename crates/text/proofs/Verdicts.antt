@@ -86,14 +86,14 @@ module _ (Bad : Mark → Type 0) (test : Mark → Bool) (hit : (m : Mark) → te
   first-cases (m ∷ ms) h =
       ⊎-elim
       (λ y.
-          let e = ap (λ q. first test q ms) (cond-true (test m) (m .place) 0 y) ∙ first-stays test (m .place) ms (h .0) in
-          inr (omega (arith, h .0), inl (hit m y, e)))
+      let e = ap (λ q. first test q ms) (cond-true (test m) (m .place) 0 y) ∙ first-stays test (m .place) ms (h .0) in
+      inr (omega (arith, h .0), inl (hit m y, e)))
       (λ z.
-          let e : first test 0 (m ∷ ms) ≡ first test 0 ms = ap (λ q. first test q ms) (cond-false (test m) (m .place) 0 z) in
-          ⊎-elim
-          (λ n. inl ((miss m z, n .0), e ∙ n .1))
-          (λ s. inr (omega (arith, s .0), inr (miss m z, subst (λ q. FirstAt Bad ms q) (sym e) (s .1))))
-          (first-cases ms (h .1)))
+      let e : first test 0 (m ∷ ms) ≡ first test 0 ms = ap (λ q. first test q ms) (cond-false (test m) (m .place) 0 z) in
+      ⊎-elim
+      (λ n. inl ((miss m z, n .0), e ∙ n .1))
+      (λ s. inr (omega (arith, s .0), inr (miss m z, subst (λ q. FirstAt Bad ms q) (sym e) (s .1))))
+      (first-cases ms (h .1)))
       (cases-bool (test m))
 
 module _ (Bad : Mark → Type 0) where

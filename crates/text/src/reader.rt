@@ -442,25 +442,60 @@ fn read_named(line: &[u8]) -> Result<Line, LineRefusal>
         return Err(LineRefusal::Syntax(513));
     }
     if let Some(rest) = after_order(line) {
-        return LineReader { rest, place: 8, over: 0, falls: 0 }.order();
+        return LineReader {
+            rest,
+            place: 8,
+            over: 0,
+            falls: 0,
+        }.order();
     }
     if let Some(rest) = after_notice(line) {
-        return LineReader { rest, place: 9, over: 0, falls: 0 }.notice();
+        return LineReader {
+            rest,
+            place: 9,
+            over: 0,
+            falls: 0,
+        }.notice();
     }
     if let Some(rest) = after_open(line) {
-        return LineReader { rest, place: 6, over: 0, falls: 0 }.phase();
+        return LineReader {
+            rest,
+            place: 6,
+            over: 0,
+            falls: 0,
+        }.phase();
     }
     if let Some(rest) = after_watch(line) {
-        return LineReader { rest, place: 8, over: 0, falls: 0 }.watch();
+        return LineReader {
+            rest,
+            place: 8,
+            over: 0,
+            falls: 0,
+        }.watch();
     }
     if let Some(rest) = after_link(line) {
-        return LineReader { rest, place: 7, over: 0, falls: 0 }.link();
+        return LineReader {
+            rest,
+            place: 7,
+            over: 0,
+            falls: 0,
+        }.link();
     }
     if let Some(rest) = after_end(line) {
-        return LineReader { rest, place: 6, over: 0, falls: 0 }.end_node();
+        return LineReader {
+            rest,
+            place: 6,
+            over: 0,
+            falls: 0,
+        }.end_node();
     }
     if let Some(rest) = after_bare(line) {
-        return LineReader { rest, place: 7, over: 0, falls: 0 }.bare();
+        return LineReader {
+            rest,
+            place: 7,
+            over: 0,
+            falls: 0,
+        }.bare();
     }
     Err(LineRefusal::Syntax(unnamed(line)))
 }
