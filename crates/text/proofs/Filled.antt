@@ -1,12 +1,12 @@
 -- What the reader makes of a text that has a form. Assumes nothing.
-use mathlib.Core.Path.{_≡_, refl, sym, ap, subst, _∙_}
+use mathlib.Core.Path.{_≡_, refl, sym, ap, _∙_}
 use mathlib.Core.Bool.{Bool, true, false, cond, not, _&&_}
 use mathlib.Core.Logic.{_⊎_, inl, inr, ⊎-elim}
 use mathlib.Core.List.{List, [], _∷_, _++_}
-use Prim.Native.Nat.{ℕ, zero, suc, _+_, _-_, _*_, _≤_, _<_}
+use Prim.Native.Nat.{ℕ, zero, suc, _+_, _*_, _≤_, _<_}
 use native.Mathlib.Omega.{arith}
 use lib.Dec.{eqb, ltb}
-use lib.ListN.{length, take}
+use lib.ListN.{length}
 use Rattle.std.proofs.shelf.Lists.{append-assoc, length-append}
 use Rattle.std.proofs.shelf.Tests.{false≢true, cond-true, cond-false, cond-both, cases-lt, eq-eqb, ne-eqb, eqb-false, and-parts, not-true}
 use Rattle.std.specs.shelf.Lists.{All, joined}
@@ -154,8 +154,8 @@ module _ (most : ℕ) (rise : Bool) (t : List ℕ) (no-digit : starts t ≡ fals
       let o : ℕ = noted over (p + 1) (ltb most (value ds)) in
       let f : ℕ = noted falls (p + 1) (ltb (x .value) least) in
       let e =
-          ap (λ l. take-number most least l (p + 1) over falls on) (append-assoc ds u t)
-          ∙ number-taken most least ds (u ++ t) (p + 1) over falls on (h .0) (list-ended ds dss t no-digit)
+      ap (λ l. take-number most least l (p + 1) over falls on) (append-assoc ds u t)
+      ∙ number-taken most least ds (u ++ t) (p + 1) over falls on (h .0) (list-ended ds dss t no-digit)
       in
       let some = numeral-some ds (h .0) in
       let m = numbers-left n dss (h .1) (omega arith) (cond rise (x .value + 1) 0) (p + 1 + length ds) o f (λ xs. next (x ∷ xs)) in

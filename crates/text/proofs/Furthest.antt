@@ -1,12 +1,12 @@
 -- What several forms make of a text together. Assumes nothing.
 use mathlib.Core.Path.{_≡_, refl, sym, ap, subst, _∙_}
-use mathlib.Core.Bool.{Bool, true, false, cond}
+use mathlib.Core.Bool.{true}
 use mathlib.Core.Logic.{_⊎_, inl, inr, ⊎-elim}
 use mathlib.Core.List.{List, [], _∷_, _++_}
-use Prim.Native.Nat.{ℕ, zero, suc, max, _+_, _-_, _*_, _≤_, _<_}
+use Prim.Native.Nat.{ℕ, zero, suc, max, _+_, _-_, _*_, _≤_}
 use native.Mathlib.Omega.{arith}
 use lib.ListN.{length, take, getD}
-use Rattle.std.proofs.shelf.Lists.{length-append, length-take-le, getD-append-left, take-append-le, take-take, take-all}
+use Rattle.std.proofs.shelf.Lists.{length-take-le, getD-append-left, take-append-le, take-take}
 use Rattle.std.proofs.shelf.Tests.{cases-lt}
 use Rattle.std.proofs.shelf.Elements.{all-has, all-weaker}
 use Rattle.std.specs.shelf.Lists.{All, Has}
@@ -14,13 +14,13 @@ use Rattle.std.specs.declared.result.Result.the-variants.{Ok, Err}
 use Rattle.text.specs.declared.line.Line.{Line}
 use Rattle.text.specs.declared.refusal.LineRefusal.the-variants.{Syntax, TooLarge, NotRising}
 use Rattle.text.specs.Forms.{Part, Form, word, number, wagons, rising, forms}
-use Rattle.text.specs.Reading.{Outcome, scan, by-form, further, by-forms}
+use Rattle.text.specs.Reading.{Outcome, by-form, further, by-forms}
 use Rattle.text.specs.Meaning.{Filling, Proper, filled, Mark, marks, Shape, Begins, Stops}
 use Rattle.text.proofs.Fillings.{meant}
 use Rattle.text.proofs.Filled.{is-syntax, Clear, clear-from, Late, parted, scan-filled}
 use Rattle.text.proofs.Verdicts.{Verdict, fine, large, falling, verdict}
-use Rattle.text.proofs.Shapes.{Of, Halts, Tells, complete, scan-tells}
-use Rattle.text.proofs.Local.{LocalAt, scan-local, same-place}
+use Rattle.text.proofs.Shapes.{Of, complete, scan-tells}
+use Rattle.text.proofs.Local.{scan-local, same-place}
 
 has-head : {X : Type 0} (x : X) (xs : List X) → Has (x ∷ xs) x
 has-head x xs = (0, omega arith, λ d. refl)
@@ -165,11 +165,11 @@ stops-one (f ∷ fs) s q e =
     let (a, b, x, y, m) = further-stops (by-form f s) (by-forms fs s) q e in
     ⊎-elim
     (λ lt.
-        let k : b ≡ q = omega arith in
-        ⊎-elim
-        (λ z. inl (sym k ∙ z))
-        (λ (g, h, z). inr (g, has-tail f fs g h, z ∙ ap (λ (n : ℕ). Err (Syntax n)) k))
-        (stops-one fs s b y))
+    let k : b ≡ q = omega arith in
+    ⊎-elim
+    (λ z. inl (sym k ∙ z))
+    (λ (g, h, z). inr (g, has-tail f fs g h, z ∙ ap (λ (n : ℕ). Err (Syntax n)) k))
+    (stops-one fs s b y))
     (λ le. let k : a ≡ q = omega arith in inr (f, has-head f fs, x ∙ ap (λ (n : ℕ). Err (Syntax n)) k))
     (cases-lt a b)
 
@@ -182,13 +182,13 @@ module _ (fs : List Form) (good : All Good fs) (s : List ℕ) (short : length s 
   forms-stop f has q e =
       let each = stops-all fs s q e in
       let first-place : (q ≡ 1) → ((1 ≤ q) × (q ≤ length s + 1)) × Begins fs (take (q - 1) s) = λ z.
-          let k : 0 ≡ q - 1 = omega arith in
-          let (t, o) = complete (f .parts) in
-          (omega arith, subst (λ n. Begins fs (take n s)) k (t, shape fs f has t o))
+      let k : 0 ≡ q - 1 = omega arith in
+      let (t, o) = complete (f .parts) in
+      (omega arith, subst (λ n. Begins fs (take n s)) k (t, shape fs f has t o))
       in
       let later : (g : Form) × Has fs g × (by-form g s ≡ Err (Syntax q)) → ((1 ≤ q) × (q ≤ length s + 1)) × Begins fs (take (q - 1) s) = λ (g, h, z).
-          let (lo, hi, t, o) = stopped g (all-has Good fs g good h) s q z in
-          ((lo, hi), (t, shape fs g h (take (q - 1) s ++ t) o))
+      let (lo, hi, t, o) = stopped g (all-has Good fs g good h) s q z in
+      ((lo, hi), (t, shape fs g h (take (q - 1) s ++ t) o))
       in
       let b = ⊎-elim first-place later (stops-one fs s q e) in
       record {
@@ -215,10 +215,10 @@ forms-shape [] s c = absurd (c 1 refl)
 forms-shape (f ∷ fs) s c =
     ⊎-elim
     (λ (p, e).
-        let x : by-forms (f ∷ fs) s ≡ further (Err (Syntax p)) (by-forms fs s) = ap (λ o. further o (by-forms fs s)) e in
-        let d : Clear (by-forms fs s) = past-clear p (by-forms fs s) (subst Clear x c) in
-        let (g, h, y) = forms-shape fs s d in
-        (g, has-tail f fs g h, y ∙ sym (x ∙ further-past p (by-forms fs s) d)))
+    let x : by-forms (f ∷ fs) s ≡ further (Err (Syntax p)) (by-forms fs s) = ap (λ o. further o (by-forms fs s)) e in
+    let d : Clear (by-forms fs s) = past-clear p (by-forms fs s) (subst Clear x c) in
+    let (g, h, y) = forms-shape fs s d in
+    (g, has-tail f fs g h, y ∙ sym (x ∙ further-past p (by-forms fs s) d)))
     (λ d. (f, has-head f fs, sym (further-clear (by-form f s) (by-forms fs s) d)))
     (syntax-cases (by-form f s))
 
@@ -236,17 +236,17 @@ forms-own [] good apart s short f has o = absurd (omega (arith, has .1))
 forms-own (g ∷ fs) good apart s short f has o =
     let c : Clear (by-form f s) = form-clear f (all-has Good (g ∷ fs) f good has) s short o in
     let own : g ≡ f → by-forms (g ∷ fs) s ≡ by-form f s = λ e.
-        let x = ap (λ k. by-form k s) e in
-        further-clear (by-form g s) (by-forms fs s) (subst Clear (sym x) c) ∙ x
+    let x = ap (λ k. by-form k s) e in
+    further-clear (by-form g s) (by-forms fs s) (subst Clear (sym x) c) ∙ x
     in
     let other : Has fs f → by-forms (g ∷ fs) s ≡ by-form f s = λ h.
-        let ih = forms-own fs (good .1) (apart .1) s short f h o in
-        ⊎-elim
-        (λ (p, e). ap (λ y. further y (by-forms fs s)) e ∙ further-past p (by-forms fs s) (subst Clear (sym ih) c) ∙ ih)
-        (λ d.
-            let a = all-has (λ k. key (lead (g .parts)) ≡ key (lead (k .parts)) → ⊥) fs f (apart .0) h in
-            absurd (a (sym (key-of g (good .0) s (form-of g s d)) ∙ key-of f (all-has Good fs f (good .1) h) s o)))
-        (syntax-cases (by-form g s))
+    let ih = forms-own fs (good .1) (apart .1) s short f h o in
+    ⊎-elim
+    (λ (p, e). ap (λ y. further y (by-forms fs s)) e ∙ further-past p (by-forms fs s) (subst Clear (sym ih) c) ∙ ih)
+    (λ d.
+    let a = all-has (λ k. key (lead (g .parts)) ≡ key (lead (k .parts)) → ⊥) fs f (apart .0) h in
+    absurd (a (sym (key-of g (good .0) s (form-of g s d)) ∙ key-of f (all-has Good fs f (good .1) h) s o)))
+    (syntax-cases (by-form g s))
     in
     ⊎-elim own other (has-cases g fs f has)
 

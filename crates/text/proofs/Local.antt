@@ -1,14 +1,14 @@
 -- A refusal of the syntax looks no further than its place. Assumes nothing.
 use mathlib.Core.Path.{_≡_, refl, sym, ap, subst, _∙_}
 use mathlib.Core.Bool.{Bool, true, false, cond}
-use mathlib.Core.Logic.{_⊎_, inl, inr, ⊎-elim}
+use mathlib.Core.Logic.{inl, inr, ⊎-elim}
 use mathlib.Core.List.{List, [], _∷_, _++_}
-use Prim.Native.Nat.{ℕ, zero, suc, _+_, _-_, _≤_, _<_}
+use Prim.Native.Nat.{ℕ, zero, suc, _+_, _-_, _≤_}
 use native.Mathlib.Omega.{arith}
 use lib.Dec.{eqb, ltb}
 use lib.ListN.{length, take}
 use Rattle.std.proofs.shelf.Tests.{cases-bool, cond-true, cond-false}
-use Rattle.std.specs.declared.result.Result.the-variants.{Ok, Err}
+use Rattle.std.specs.declared.result.Result.the-variants.{Err}
 use Rattle.grade.specs.declared.upto.UpTo.{UpTo}
 use Rattle.text.specs.declared.line.Line.{Line}
 use Rattle.text.specs.declared.refusal.LineRefusal.the-variants.{Syntax}
@@ -59,10 +59,12 @@ Local next = (s : List ℕ) (p over falls q : ℕ) → next s p over falls ≡ E
 -- what is local behind w is local from w on
 local-after : (read next : List ℕ → Outcome) (w s : List ℕ) (p q : ℕ) → ((t : List ℕ) → take (suc (q - (p + length w))) t ≡ take (suc (q - (p + length w))) s → read (w ++ t) ≡ next t) → LocalAt next s (p + length w) q → LocalAt read (w ++ s) p q
 local-after read next w s p q to h =
-    let le = h .0 in
-    (omega arith, λ u f.
-        let g = front-past w s u (suc (q - p)) (suc (q - (p + length w))) (omega arith) f in
-        ap read (g .1) ∙ to (g .0) (g .2) ∙ h .1 (g .0) (g .2))
+    let le = h .0 in (
+      omega arith,
+      λ u f.
+          let g = front-past w s u (suc (q - p)) (suc (q - (p + length w))) (omega arith) f in
+          ap read (g .1) ∙ to (g .0) (g .2) ∙ h .1 (g .0) (g .2),
+    )
 
 -- a refusal at the very place hangs on the first byte alone
 local-here : (read : List ℕ → Outcome) (s : List ℕ) (p q : ℕ) → p ≡ q → ((u : List ℕ) → take 1 u ≡ take 1 s → read u ≡ Err (Syntax p)) → LocalAt read s p q
@@ -80,11 +82,11 @@ local-word next on (c ∷ w) (b ∷ s) p over falls q e =
     let then : List ℕ → Outcome = λ u. take-word w u (p + 1) over falls next in
     ⊎-elim
     (λ y.
-        let to : (t : List ℕ) → read (b ∷ t) ≡ then t = λ t. cond-true (eqb b c) (then t) (Err (Syntax p)) y in
-        local-after read then (b ∷ []) s p q (λ t f. to t) (local-word next on w s (p + 1) over falls q (sym (to s) ∙ e)))
+    let to : (t : List ℕ) → read (b ∷ t) ≡ then t = λ t. cond-true (eqb b c) (then t) (Err (Syntax p)) y in
+    local-after read then (b ∷ []) s p q (λ t f. to t) (local-word next on w s (p + 1) over falls q (sym (to s) ∙ e)))
     (λ z.
-        let to : (t : List ℕ) → read (b ∷ t) ≡ Err (Syntax p) = λ t. cond-false (eqb b c) (then t) (Err (Syntax p)) z in
-        local-here read (b ∷ s) p q (same-place p q (sym (to s) ∙ e)) (λ u f. let g = front-cons 0 b s u f in ap read (g .1) ∙ to (g .0)))
+    let to : (t : List ℕ) → read (b ∷ t) ≡ Err (Syntax p) = λ t. cond-false (eqb b c) (then t) (Err (Syntax p)) z in
+    local-here read (b ∷ s) p q (same-place p q (sym (to s) ∙ e)) (λ u f. let g = front-cons 0 b s u f in ap read (g .1) ∙ to (g .0)))
     (cases-bool (eqb b c))
 
 ended-alike : (ds s u : List ℕ) (m : ℕ) → take (suc m) u ≡ take (suc m) s → Ended ds s → Ended ds u
@@ -96,19 +98,19 @@ local-number most least next on s p over falls q e =
     let read : List ℕ → Outcome = λ u. take-number most least u p over falls next in
     ⊎-elim
     (λ y.
-        let n = numbered s y in
-        let ds = n .digits in
-        let x : UpTo most = kept most (value ds) in
-        let o : ℕ = noted over p (ltb most (value ds)) in
-        let f : ℕ = noted falls p (ltb (x .value) least) in
-        let then : List ℕ → Outcome = λ u. next x u (p + length ds) o f in
-        let to : (t : List ℕ) → Ended ds t → read (ds ++ t) ≡ then t = λ t d. number-taken most least ds t p over falls next (n .proper) d in
-        let h : LocalAt then (n .rest) (p + length ds) q = on x (n .rest) (p + length ds) o f q (sym (to (n .rest) (n .ended)) ∙ ap read (sym (n .is)) ∙ e) in
-        let g : LocalAt read (ds ++ n .rest) p q = local-after read then ds (n .rest) p q (λ t a. to t (ended-alike ds (n .rest) t (q - (p + length ds)) a (n .ended))) h in
-        subst (λ l. LocalAt read l p q) (sym (n .is)) g)
+    let n = numbered s y in
+    let ds = n .digits in
+    let x : UpTo most = kept most (value ds) in
+    let o : ℕ = noted over p (ltb most (value ds)) in
+    let f : ℕ = noted falls p (ltb (x .value) least) in
+    let then : List ℕ → Outcome = λ u. next x u (p + length ds) o f in
+    let to : (t : List ℕ) → Ended ds t → read (ds ++ t) ≡ then t = λ t d. number-taken most least ds t p over falls next (n .proper) d in
+    let h : LocalAt then (n .rest) (p + length ds) q = on x (n .rest) (p + length ds) o f q (sym (to (n .rest) (n .ended)) ∙ ap read (sym (n .is)) ∙ e) in
+    let g : LocalAt read (ds ++ n .rest) p q = local-after read then ds (n .rest) p q (λ t a. to t (ended-alike ds (n .rest) t (q - (p + length ds)) a (n .ended))) h in
+    subst (λ l. LocalAt read l p q) (sym (n .is)) g)
     (λ z.
-        let pq = same-place p q (sym (number-refused most least s p over falls next z) ∙ e) in
-        local-here read s p q pq (λ u f. number-refused most least u p over falls next (starts-alike 0 s u f ∙ z)))
+    let pq = same-place p q (sym (number-refused most least s p over falls next z) ∙ e) in
+    local-here read s p q pq (λ u f. number-refused most least u p over falls next (starts-alike 0 s u f ∙ z)))
     (cases-bool (starts s))
 
 local-numbers : (n most : ℕ) (rise : Bool) (least : ℕ) (next : List (UpTo most) → Next) → ((xs : List (UpTo most)) → Local (next xs)) → Local (λ s p o f. take-numbers n most rise least s p o f next)
@@ -122,15 +124,17 @@ local-numbers (suc n) most rise least next on (b ∷ s) p over falls q e =
     let then : List ℕ → Outcome = λ u. take-number most least u (p + 1) over falls go in
     ⊎-elim
     (λ y.
-        let to : (t : List ℕ) → read (b ∷ t) ≡ then t = λ t. cond-true (eqb b 32) (then t) (next [] (b ∷ t) p over falls) y in
-        let ih : (x : UpTo most) → Local (go x) = λ x. local-numbers n most rise (cond rise (x .value + 1) 0) (λ xs. next (x ∷ xs)) (λ xs. on (x ∷ xs)) in
-        local-after read then (b ∷ []) s p q (λ t f. to t) (local-number most least go ih s (p + 1) over falls q (sym (to s) ∙ e)))
+    let to : (t : List ℕ) → read (b ∷ t) ≡ then t = λ t. cond-true (eqb b 32) (then t) (next [] (b ∷ t) p over falls) y in
+    let ih : (x : UpTo most) → Local (go x) = λ x. local-numbers n most rise (cond rise (x .value + 1) 0) (λ xs. next (x ∷ xs)) (λ xs. on (x ∷ xs)) in
+    local-after read then (b ∷ []) s p q (λ t f. to t) (local-number most least go ih s (p + 1) over falls q (sym (to s) ∙ e)))
     (λ z.
-        let to : (t : List ℕ) → read (b ∷ t) ≡ next [] (b ∷ t) p over falls = λ t. cond-false (eqb b 32) (then t) (next [] (b ∷ t) p over falls) z in
-        let h = on [] (b ∷ s) p over falls q (sym (to s) ∙ e) in
-        (h .0, λ u f.
-            let g = front-cons (q - p) b s u f in
-            ap read (g .1) ∙ to (g .0) ∙ h .1 (b ∷ g .0) (ap (λ l. b ∷ l) (g .2))))
+    let to : (t : List ℕ) → read (b ∷ t) ≡ next [] (b ∷ t) p over falls = λ t. cond-false (eqb b 32) (then t) (next [] (b ∷ t) p over falls) z in
+    let h = on [] (b ∷ s) p over falls q (sym (to s) ∙ e) in (
+      h .0,
+      λ u f.
+          let g = front-cons (q - p) b s u f in
+          ap read (g .1) ∙ to (g .0) ∙ h .1 (b ∷ g .0) (ap (λ l. b ∷ l) (g .2)),
+    ))
     (cases-bool (eqb b 32))
 
 pub scan-local : (ps : List Part) (line : Values ps → Line) → Local (scan ps line)

@@ -1,9 +1,8 @@
--- Reading a text gives what it says, where the value side of the forms is given. Assumes nothing.
+-- Reading a text gives what it says, given what is said of the values of a form. Assumes nothing else.
 use mathlib.Core.Path.{_≡_, refl, sym, ap, subst, _∙_}
-use mathlib.Core.Bool.{Bool, true, false, cond}
-use mathlib.Core.Logic.{_⊎_, inl, inr, ⊎-elim}
-use mathlib.Core.List.{List, [], _∷_, _++_}
-use Prim.Native.Nat.{ℕ, _+_, _-_, _≤_, _<_}
+use mathlib.Core.Logic.{inl, inr, ⊎-elim}
+use mathlib.Core.List.{List, _++_}
+use Prim.Native.Nat.{ℕ, _-_, _≤_, _<_}
 use native.Mathlib.Omega.{arith}
 use lib.Dec.{ltb}
 use lib.ListN.{length, take, drop}
@@ -16,7 +15,7 @@ use Rattle.text.specs.declared.line.Line.{Line}
 use Rattle.text.specs.declared.line.Line.the-variants.{Order, Notice, Open, Watch, Link, End, Bare}
 use Rattle.text.specs.declared.refusal.LineRefusal.the-variants.{Syntax, TooLarge, NotRising}
 use Rattle.text.specs.Forms.{Part, Form, Values, spelled, text, forms, order-form, notice-form, open-form, watch-form, link-form, end-form, bare-form}
-use Rattle.text.specs.Reading.{Outcome, by-form, by-forms, read}
+use Rattle.text.specs.Reading.{Outcome, by-forms}
 use Rattle.text.specs.Meaning.{Filling, Proper, filled, Mark, marks, Shape, Begins, Stops, FirstAt, Above, Falls, numbers, Within, Says, Reads-right}
 use Rattle.text.proofs.Fillings.{meant, Sized}
 use Rattle.text.proofs.Filled.{Clear}

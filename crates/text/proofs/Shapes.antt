@@ -3,14 +3,14 @@ use mathlib.Core.Path.{_≡_, refl, sym, ap, subst, _∙_}
 use mathlib.Core.Bool.{Bool, true, false, cond}
 use mathlib.Core.Logic.{_⊎_, inl, inr, ⊎-elim}
 use mathlib.Core.List.{List, [], _∷_, _++_}
-use Prim.Native.Nat.{ℕ, zero, suc, _+_, _-_, _≤_, _<_}
+use Prim.Native.Nat.{ℕ, zero, suc, _+_, _-_, _≤_}
 use native.Mathlib.Omega.{arith}
 use lib.Dec.{eqb}
 use lib.ListN.{length, take}
 use Rattle.std.proofs.shelf.Lists.{append-assoc, length-append}
 use Rattle.std.proofs.shelf.Tests.{cases-bool, cond-both, eqb-true}
 use Rattle.std.specs.shelf.Lists.{All, joined}
-use Rattle.std.specs.declared.result.Result.the-variants.{Ok, Err}
+use Rattle.std.specs.declared.result.Result.the-variants.{Err}
 use Rattle.grade.specs.declared.upto.UpTo.{UpTo}
 use Rattle.text.specs.declared.line.Line.{Line}
 use Rattle.text.specs.declared.refusal.LineRefusal.the-variants.{Syntax}
@@ -20,7 +20,7 @@ use Rattle.text.specs.Forms.{Part, Values, word, number, wagons, rising}
 use Rattle.text.specs.Reading.{Outcome, Next, take-word, take-number, take-numbers, wagons-of, values-of, many, scan}
 use Rattle.text.specs.Meaning.{Filling, Proper, blank-digits, filled}
 use Rattle.text.proofs.Filled.{Clear, settled-clear}
-use Rattle.text.proofs.Numbers.{Numbered, numbered, number-taken, number-refused}
+use Rattle.text.proofs.Numbers.{numbered, number-taken, number-refused}
 
 abbrev pub Texts : Type 1
 Texts = List ℕ → Type 0
@@ -104,10 +104,10 @@ module _ (L : Texts) (some : Some L) where
   told-number most least next on s p over falls =
       ⊎-elim
       (λ y.
-          let n = numbered s y in
-          let e = ap (λ l. take-number most least l p over falls next) (n .is) ∙ number-taken most least (n .digits) (n .rest) p over falls next (n .proper) (n .ended) in
-          let h = tells-after L (Number L) (n .digits) (λ t h. (n .digits, n .proper, t, h, refl)) (n .rest) p (p + length (n .digits)) _ refl (on _ (n .rest) (p + length (n .digits)) _ _) in
-          subst (λ l. Tells (Number L) l p (take-number most least s p over falls next)) (sym (n .is)) (subst (λ x. Tells (Number L) (n .digits ++ n .rest) p x) (sym e) h))
+      let n = numbered s y in
+      let e = ap (λ l. take-number most least l p over falls next) (n .is) ∙ number-taken most least (n .digits) (n .rest) p over falls next (n .proper) (n .ended) in
+      let h = tells-after L (Number L) (n .digits) (λ t h. (n .digits, n .proper, t, h, refl)) (n .rest) p (p + length (n .digits)) _ refl (on _ (n .rest) (p + length (n .digits)) _ _) in
+      subst (λ l. Tells (Number L) l p (take-number most least s p over falls next)) (sym (n .is)) (subst (λ x. Tells (Number L) (n .digits ++ n .rest) p x) (sym e) h))
       (λ z. tells-here (Number L) zero-first s p _ (number-refused most least s p over falls next z))
       (cases-bool (starts s))
 
@@ -127,9 +127,9 @@ module _ (L : Texts) (some : Some L) where
       let then : UpTo most → Next = λ x t q o f. take-numbers n most rise (cond rise (x .value + 1) 0) t q o f (λ xs. next (x ∷ xs)) in
       cond-both (eqb b 32) _ _ (λ x. Tells M (b ∷ s) p x)
       (λ y.
-          tells-after (Number (Lists n L)) M (b ∷ []) (λ t h. subst (λ c. M (c ∷ t)) (sym (eqb-true b 32 y)) (lists-more n t h)) s p (p + 1) _ refl
-          (told-number (Lists n L) (some .0, lists-none n (some .0) (some .1)) most least then
-          (λ x. told-numbers n most rise (cond rise (x .value + 1) 0) (λ xs. next (x ∷ xs)) (λ xs. on (x ∷ xs))) s (p + 1) over falls))
+      tells-after (Number (Lists n L)) M (b ∷ []) (λ t h. subst (λ c. M (c ∷ t)) (sym (eqb-true b 32 y)) (lists-more n t h)) s p (p + 1) _ refl
+      (told-number (Lists n L) (some .0, lists-none n (some .0) (some .1)) most least then
+      (λ x. told-numbers n most rise (cond rise (x .value + 1) 0) (λ xs. next (x ∷ xs)) (λ xs. on (x ∷ xs))) s (p + 1) over falls))
       (λ z. tells-after L M [] (lists-none (suc n)) (b ∷ s) p p _ (omega arith) (on [] (b ∷ s) p over falls))
 
 -- every form can be filled
