@@ -7,7 +7,7 @@ use native.Mathlib.Omega.{arith}
 use native.Mathlib.Decide.{decLt}
 use lib.ListN.{length}
 use Rattle.deduction.specs.Lists.{In, Distinct}
-use Rattle.deduction.specs.Counting.{Outnumber, NoRoom, Lists, Filled, Overfull}
+use Rattle.deduction.specs.Counting.{Outnumber, NoRoom, Listing, Filled, Overfull}
 
 module _ {X : Type 0} where
   -- the list with one place of x taken out
@@ -38,15 +38,23 @@ module _ {X : Type 0} where
         let fewer = no-longer (out .some) xs (out .distinct) (λ x h. all x (out .each x h)) in
         omega (arith, out .longer)
 
-    pub listed-outnumber : (all : List X) → Lists P all → (n : ℕ) → n < length all → Outnumber P n
-    listed-outnumber all lists n longer = record { some = all; distinct = lists .distinct; each = λ x. lists .exactly x .0; longer = longer }
+    -- where those that are P can be listed, both say that the list is longer
+    module _ (all : List X) (listing : Listing P all) (n : ℕ) where
+      no-room-longer : NoRoom P n → n < length all
+      no-room-longer no-room = from (decLt n (length all))
+        where
+          from : Dec (n < length all) → n < length all
+          from (yes longer) = longer
+          from (no not-longer) = absurd (no-room all (omega arith) (λ x. listing .exactly x .1))
 
-    pub listed-longer : (all : List X) → Lists P all → (n : ℕ) → NoRoom P n → n < length all
-    listed-longer all lists n no-room = from (decLt n (length all))
-      where
-        from : Dec (n < length all) → n < length all
-        from (yes longer) = longer
-        from (no not-longer) = absurd (no-room all (omega arith) (λ x. lists .exactly x .1))
+      longer-outnumber : n < length all → Outnumber P n
+      longer-outnumber longer = record { some = all; distinct = listing .distinct; each = λ x. listing .exactly x .0; longer = longer }
+
+      pub listed-outnumber : Outnumber P n ↔ (n < length all)
+      listed-outnumber = (λ out. no-room-longer (outnumber-no-room n out), longer-outnumber)
+
+      pub listed-no-room : NoRoom P n ↔ (n < length all)
+      listed-no-room = (no-room-longer, λ longer. outnumber-no-room n (longer-outnumber longer))
 
 -- what the first n places of a table hold, the last first
 module _ {X : Type 0} (at : ℕ → X) where
@@ -82,19 +90,14 @@ module _ {X : Type 0} (P : X → Type 0) (at : ℕ → X) (n : ℕ) where
   held-each : ((k : ℕ) → k < n → P (at k)) → (x : X) → In x (held at n) → P x
   held-each each x among = let (k, less, is-x) = held-place at n x among in subst P is-x (each k less)
 
-  pub filled-lists : Filled P at n → Lists P (held at n)
-  filled-lists filled = record {
+  pub filled-listing : Filled P at n → Listing P (held at n)
+  filled-listing filled = record {
     distinct = held-distinct at n (filled .apart);
     exactly = λ x. (held-each (filled .each) x, λ p. let (k, less, is-x) = filled .all x p in subst (λ y. In y (held at n)) is-x (place-held at n k less));
   }
 
-  pub filled-exactly : Filled P at n → (places : ℕ) → Outnumber P places ↔ (places < n)
-  filled-exactly filled places =
-      let lists = filled-lists filled in
-      let long = length-held at n in (
-        λ out. let longer = listed-longer P (held at n) lists places (outnumber-no-room P places out) in omega arith,
-        λ fewer. listed-outnumber P (held at n) lists places (omega arith),
-      )
+  pub filled-outnumber : Filled P at n → (places : ℕ) → Outnumber P places ↔ (places < n)
+  filled-outnumber filled places = subst (λ long. Outnumber P places ↔ (places < long)) (length-held at n) (listed-outnumber P (held at n) (filled-listing filled) places)
 
   pub overfull-outnumber : Overfull P at n → Outnumber P n
   overfull-outnumber over = record {

@@ -5,6 +5,7 @@ use mathlib.Core.Logic.{_⊎_, inl, inr}
 use Rattle.deduction.specs.Lists.{In}
 use Rattle.deduction.specs.Grades.{Grading, NoWorse, Laws}
 use Rattle.deduction.specs.Derivations.{Rules, System, Derivation, Derivations, by, none, more, grade, joined-grade, Derived, BestOf, Joined, joined-none, joined-more}
+use Rattle.deduction.proofs.Grades.{no-worse-itself, joins-no-worse}
 
 -- What the rules keep holds of every derivation with its grade.
 module _ {I R G : Type 0} (s : System I R G) (P : I → G → Type 0)
@@ -26,6 +27,14 @@ module _ {I G : Type 0} {grading : Grading G} {P : I → G → Type 0} where
   pub joined-nothing : ((i : I) (g : G) → P i g → ⊥) → {is : List I} {g : G} → Joined grading P is g → (is ≡ []) × (g ≡ grading .best)
   joined-nothing nothing joined-none = (refl, refl)
   joined-nothing nothing (joined-more {i = i} {g = g} p ps) = absurd (nothing i g p)
+
+  -- where Q has a grade no worse for each, it has grades that join to one no worse
+  pub joined-better : {Q : I → G → Type 0} → Laws grading → ((i : I) (g : G) → P i g → (h : G) × Q i h × NoWorse grading h g) → {is : List I} {g : G} → Joined grading P is g → (h : G) × Joined grading Q is h × NoWorse grading h g
+  joined-better laws better joined-none = (grading .best, joined-none, no-worse-itself laws (grading .best))
+  joined-better laws better (joined-more {i = i} {g = g} {h = h} p ps) =
+      let (x, q, le) = better i g p in
+      let (y, qs, les) = joined-better laws better ps in
+      (grading .join x y, joined-more q qs, joins-no-worse laws x g y h le les)
 
   -- each part of a join has a grade no worse than the whole
   pub joined-part : Laws grading → (j : I) {is : List I} {g : G} → Joined grading P is g → In j is → (h : G) × P j h × NoWorse grading h g
@@ -65,19 +74,16 @@ module _ {I R Q G : Type 0} (s : System I R G) (rules : Rules I Q) (toll : Q →
   pub derived-also : (i : I) (g : G) → Derived s i g → Derived other i g
   derived-also i g (d, graded) = subst (Derived other i) graded (of-each s (Derived other) derives-more d)
 
--- The grades of one grading follow from those of another, along a map that keeps the best and joins.
-module _ {I R G H : Type 0} (rules : Rules I R) (from : Grading G) (to : Grading H) (toll : R → G) (f : G → H)
-    (keeps-best : f (from .best) ≡ to .best) (keeps-join : (a b : G) → f (from .join a b) ≡ to .join (f a) (f b)) where
-  abbrev before : System I R G
-  before = record { rules = rules; grading = from; toll = toll }
-
-  abbrev after : System I R H
-  after = record { rules = rules; grading = to; toll = λ r. f (toll r) }
+-- Grades follow along a map that keeps the best, joins and tolls.
+module _ {I R G H : Type 0} (s : System I R G) (grading : Grading H) (toll : R → H) (f : G → H)
+    (keeps-best : f (s .grading .best) ≡ grading .best) (keeps-join : (a b : G) → f (s .grading .join a b) ≡ grading .join (f a) (f b)) (keeps-toll : (r : R) → f (s .toll r) ≡ toll r) where
+  abbrev mapped : System I R H
+  mapped = record { rules = s .rules; grading = grading; toll = toll }
 
   mutual
-    pub grade-follows : {i : I} (d : Derivation rules i) → f (grade before d) ≡ grade after d
-    grade-follows (by r ds) = keeps-join (toll r) (joined-grade before ds) ∙ ap (to .join (f (toll r))) (joined-grade-follows ds)
+    pub grade-follows : {i : I} (d : Derivation (s .rules) i) → f (grade s d) ≡ grade mapped d
+    grade-follows (by r ds) = keeps-join (s .toll r) (joined-grade s ds) ∙ ap₂ (grading .join) (keeps-toll r) (joined-grade-follows ds)
 
-    pub joined-grade-follows : {is : List I} (ds : Derivations rules is) → f (joined-grade before ds) ≡ joined-grade after ds
+    pub joined-grade-follows : {is : List I} (ds : Derivations (s .rules) is) → f (joined-grade s ds) ≡ joined-grade mapped ds
     joined-grade-follows none = keeps-best
-    joined-grade-follows (more d ds) = keeps-join (grade before d) (joined-grade before ds) ∙ ap₂ (to .join) (grade-follows d) (joined-grade-follows ds)
+    joined-grade-follows (more d ds) = keeps-join (grade s d) (joined-grade s ds) ∙ ap₂ (grading .join) (grade-follows d) (joined-grade-follows ds)

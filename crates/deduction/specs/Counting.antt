@@ -19,7 +19,7 @@ module _ {X : Type 0} (P : X → Type 0) where
   NoRoom n = (xs : List X) → length xs ≤ n → ((x : X) → P x → In x xs) → ⊥
 
   -- the list holds exactly those that are P, each once
-  pub record Lists (xs : List X) : Type 0 where
+  pub record Listing (xs : List X) : Type 0 where
     pub distinct : Distinct xs
     pub exactly : (x : X) → In x xs ↔ P x
 

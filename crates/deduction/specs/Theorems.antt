@@ -8,7 +8,7 @@ use Rattle.deduction.specs.Lists.{In, Distinct}
 use Rattle.deduction.specs.Grades.{Grading, NoWorse, Laws}
 use Rattle.deduction.specs.Derivations.{Rules, System, Derivation, Derivations, grade, joined-grade, Derived, Joined, BestOf}
 use Rattle.deduction.specs.Saturation.{Invariant, Next, Settling, Start}
-use Rattle.deduction.specs.Counting.{Outnumber, NoRoom, Lists, Filled, Overfull}
+use Rattle.deduction.specs.Counting.{Outnumber, NoRoom, Listing, Filled, Overfull}
 use Rattle.deduction.specs.Reasons.{Leads, Follows, Ends, Descends}
 
 -- entries, each with an item and a grade
@@ -103,7 +103,7 @@ module _ (I R : Type 0) where
   -- Where the derivable items can be listed, the two say the same, namely that they are more than n.
   abbrev pub OutnumberExactly : Type 0
   OutnumberExactly =
-      (rules : Rules I R) (all : List I) → Lists (Derivation rules) all → (n : ℕ)
+      (rules : Rules I R) (all : List I) → Listing (Derivation rules) all → (n : ℕ)
       → (Outnumber (Derivation rules) n ↔ (n < length all)) × (NoRoom (Derivation rules) n ↔ (n < length all))
 
   -- The same of a table: full of derivable items, with one more that it has no place for, it is outnumbered, ..
@@ -125,13 +125,12 @@ module _ (X : Type 0) where
       (reasons : X → List X) (rank : X → ℕ) → Descends (λ x y. In y (reasons x)) rank → (x : X)
       → Ends (λ x y. In y (reasons x)) x × ((n : ℕ) → Follows (λ x y. In y (reasons x)) x n → n ≤ rank x)
 
--- A map of grades that keeps the best and joins takes the grades of derivations along with the tolls.
+-- Along a map of grades that keeps the best, joins and tolls, the grade of a derivation goes to its grade.
 abbrev pub GradesFollow : (I R G H : Type 0) → Type 0
 GradesFollow I R G H =
-    (rules : Rules I R) (from : Grading G) (to : Grading H) (toll : R → G) (f : G → H)
-    → f (from .best) ≡ to .best → ((a b : G) → f (from .join a b) ≡ to .join (f a) (f b))
-    → (i : I) (d : Derivation rules i)
-    → f (grade (record { rules = rules; grading = from; toll = toll }) d) ≡ grade (record { rules = rules; grading = to; toll = λ r. f (toll r) }) d
+    (s : System I R G) (grading : Grading H) (toll : R → H) (f : G → H)
+    → f (s .grading .best) ≡ grading .best → ((a b : G) → f (s .grading .join a b) ≡ grading .join (f a) (f b)) → ((r : R) → f (s .toll r) ≡ toll r)
+    → (i : I) (d : Derivation (s .rules) i) → f (grade s d) ≡ grade (record { rules = s .rules; grading = grading; toll = toll }) d
 
 -- Where each rule of one system is one of another, with the same premises, conclusion and toll, the other derives all that the one does, at the same grades.
 abbrev pub MoreRules : (I R Q G : Type 0) → Type 0
