@@ -7,7 +7,7 @@ use native.Mathlib.Omega.{arith}
 use native.Mathlib.Decide.{decLt}
 use lib.ListN.{length}
 use Rattle.deduction.specs.Lists.{In, Distinct}
-use Rattle.deduction.specs.Counting.{Outnumber, NoRoom, Listing, Filled, Overfull}
+use Rattle.deduction.specs.Counting.{Outnumber, NoRoom, Listing, Different, Filled, Overfull}
 
 module _ {X : Type 0} where
   -- the list with one place of x taken out
@@ -87,13 +87,13 @@ module _ {X : Type 0} (at : ℕ → X) where
   )
 
 module _ {X : Type 0} (P : X → Type 0) (at : ℕ → X) (n : ℕ) where
-  held-each : ((k : ℕ) → k < n → P (at k)) → (x : X) → In x (held at n) → P x
-  held-each each x among = let (k, less, is-x) = held-place at n x among in subst P is-x (each k less)
+  held-each : Different P at n → (x : X) → In x (held at n) → P x
+  held-each different x among = let (k, less, is-x) = held-place at n x among in subst P is-x (different .each k less)
 
   pub filled-listing : Filled P at n → Listing P (held at n)
   filled-listing filled = record {
-    distinct = held-distinct at n (filled .apart);
-    exactly = λ x. (held-each (filled .each) x, λ p. let (k, less, is-x) = filled .all x p in subst (λ y. In y (held at n)) is-x (place-held at n k less));
+    distinct = held-distinct at n (filled .different .apart);
+    exactly = λ x. (held-each (filled .different) x, λ p. let (k, less, is-x) = filled .all x p in subst (λ y. In y (held at n)) is-x (place-held at n k less));
   }
 
   pub filled-outnumber : Filled P at n → (places : ℕ) → Outnumber P places ↔ (places < n)
@@ -102,7 +102,7 @@ module _ {X : Type 0} (P : X → Type 0) (at : ℕ → X) (n : ℕ) where
   pub overfull-outnumber : Overfull P at n → Outnumber P n
   overfull-outnumber over = record {
     some = over .another ∷ held at n;
-    distinct = (λ among. let (k, less, same) = held-place at n (over .another) among in over .nowhere k less same, held-distinct at n (over .apart));
-    each = λ x. ⊎-elim (λ e. subst P (sym e) (over .also)) (held-each (over .each) x);
+    distinct = (λ among. let (k, less, same) = held-place at n (over .another) among in over .nowhere k less same, held-distinct at n (over .different .apart));
+    each = λ x. ⊎-elim (λ e. subst P (sym e) (over .also)) (held-each (over .different) x);
     longer = omega (arith, length-held at n);
   }

@@ -2,6 +2,8 @@
 use mathlib.Core.Path.{_≡_, refl, sym, ap, ap₂, subst, subst₂, _∙_}
 use mathlib.Core.List.{List, [], _∷_}
 use mathlib.Core.Logic.{_⊎_, inl, inr}
+use Prim.Native.Nat.{ℕ}
+use native.Mathlib.Omega.{arith}
 use Rattle.deduction.specs.Lists.{In}
 use Rattle.deduction.specs.Grades.{Grading, NoWorse, Laws}
 use Rattle.deduction.specs.Derivations.{Rules, System, Derivation, Derivations, by, none, more, grade, joined-grade, Derived, BestOf, Joined, joined-none, joined-more}
@@ -53,6 +55,14 @@ module _ {I R G : Type 0} (s : System I R G) where
   -- a rule over derived premises
   pub derived-by : (r : R) (g : G) → Joined (s .grading) (Derived s) (s .rules .premises r) g → Derived s (s .rules .conclusion r) (s .grading .join (s .toll r) g)
   derived-by r g ds = let all = all-derived ds in (by r (all .0), ap (s .grading .join (s .toll r)) (all .1))
+
+  -- an axiom gives its toll
+  no-grade : {is : List I} (ds : Derivations (s .rules) is) → is ≡ [] → joined-grade s ds ≡ s .grading .best
+  no-grade none empty = refl
+  no-grade (more d ds) empty = let never : _≡_ {A = ℕ} 0 1 = cc in absurd (omega arith)
+
+  pub axiom-grade : Laws (s .grading) → (r : R) → s .rules .premises r ≡ [] → (ds : Derivations (s .rules) (s .rules .premises r)) → grade s (by r ds) ≡ s .toll r
+  axiom-grade laws r empty ds = ap (s .grading .join (s .toll r)) (no-grade ds empty) ∙ laws .best-right (s .toll r)
 
   -- an item has one best grade
   pub best-once : Laws (s .grading) → (i : I) (a b : G) → BestOf s i a → BestOf s i b → a ≡ b

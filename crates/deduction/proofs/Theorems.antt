@@ -6,7 +6,7 @@ use Rattle.deduction.specs.Grades.{NoWorse}
 use Rattle.deduction.specs.Derivations.{Derivation, joined-grade}
 use Rattle.deduction.specs.Theorems.{Holds, Moment, Unsettled, BestWaiting, NextIsBest, SettledIsFinal, FinishedIsAll, FinishedIsBest, UnsettledIsBounded, ListIsBounded, ListIsKnown}
 use Rattle.deduction.specs.Theorems.{StartHolds, SettlingKeeps, SameLength, KnownOutnumber, OutnumberNoRoom, OutnumberExactly, OverfullOutnumber, FilledExactly}
-use Rattle.deduction.specs.Theorems.{NoneLeadsBack, FollowingEnds, GradesFollow, MoreRules}
+use Rattle.deduction.specs.Theorems.{NoneLeadsBack, FollowingEnds, AxiomGrade, GradesFollow, MoreRules}
 use Rattle.deduction.proofs.Derivations as derivations
 use Rattle.deduction.proofs.Bounds as bounds
 use Rattle.deduction.proofs.Settling as settling
@@ -94,6 +94,9 @@ module _ {X : Type 0} where
   pub following-ends : FollowingEnds X
   following-ends named rank descends x =
       (reasons.following-ends (λ x y. In y (named x)) rank descends x, λ n follows. reasons.follows-few (λ x y. In y (named x)) rank descends follows)
+
+pub axiom-grade : {I R G : Type 0} → AxiomGrade I R G
+axiom-grade s laws r empty ds = derivations.axiom-grade s laws r empty ds
 
 pub grades-follow : {I R G H : Type 0} → GradesFollow I R G H
 grades-follow s grading toll f keeps-best keeps-join keeps-toll i d = derivations.grade-follows s grading toll f keeps-best keeps-join keeps-toll d

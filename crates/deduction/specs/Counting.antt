@@ -23,16 +23,19 @@ module _ {X : Type 0} (P : X → Type 0) where
     pub distinct : Distinct xs
     pub exactly : (x : X) → In x xs ↔ P x
 
-  -- the first n places of a table, where place k holds `at k`, hold exactly those that are P, each once
-  pub record Filled (at : ℕ → X) (n : ℕ) : Type 0 where
+  -- The first n places of a table, where place k holds `at k`, hold different ones that are P, ..
+  pub record Different (at : ℕ → X) (n : ℕ) : Type 0 where
     pub apart : (k l : ℕ) → k < n → l < n → at k ≡ at l → k ≡ l
     pub each : (k : ℕ) → k < n → P (at k)
+
+  -- .. and all of them;
+  pub record Filled (at : ℕ → X) (n : ℕ) : Type 0 where
+    pub different : Different at n
     pub all : (x : X) → P x → (k : ℕ) × (k < n) × (at k ≡ x)
 
-  -- n places hold different ones that are P, and there is one more that stands in none of them
+  -- .. or there is one more, which stands in none of these places.
   pub record Overfull (at : ℕ → X) (n : ℕ) : Type 0 where
-    pub apart : (k l : ℕ) → k < n → l < n → at k ≡ at l → k ≡ l
-    pub each : (k : ℕ) → k < n → P (at k)
+    pub different : Different at n
     pub another : X
     pub also : P another
     pub nowhere : (k : ℕ) → k < n → at k ≡ another → ⊥

@@ -13,7 +13,7 @@ pub record Grading (G : Type 0) : Type 0 where
 abbrev pub NoWorse : {G : Type 0} → Grading G → G → G → Type 0
 NoWorse grading a b = T (grading .no-worse a b)
 
--- The laws of grades. Nothing else about grades is ever used, and that joining is commutative isn't among them.
+-- The laws of grades. Nothing else about grades is ever used. Joining need not be commutative.
 pub record Laws {G : Type 0} (grading : Grading G) : Type 0 where
   -- a total order
   pub total : (a b : G) → T (grading .no-worse a b || grading .no-worse b a)

@@ -1,12 +1,12 @@
 -- The theorems, each as one statement. Settled and waiting entries are the values of any two types, S and W.
 use mathlib.Core.Path.{_≡_}
-use mathlib.Core.List.{List}
+use mathlib.Core.List.{List, []}
 use mathlib.Core.Logic.{_⊎_, _↔_}
 use Prim.Native.Nat.{ℕ, _<_, _≤_}
 use lib.ListN.{length}
 use Rattle.deduction.specs.Lists.{In, Distinct}
 use Rattle.deduction.specs.Grades.{Grading, NoWorse, Laws}
-use Rattle.deduction.specs.Derivations.{Rules, System, Derivation, Derivations, grade, joined-grade, Derived, Joined, BestOf}
+use Rattle.deduction.specs.Derivations.{Rules, System, Derivation, Derivations, by, grade, joined-grade, Derived, Joined, BestOf}
 use Rattle.deduction.specs.Saturation.{Invariant, Next, Settling, Start}
 use Rattle.deduction.specs.Counting.{Outnumber, NoRoom, Listing, Filled, Overfull}
 use Rattle.deduction.specs.Reasons.{Leads, Follows, Ends, Descends}
@@ -124,6 +124,10 @@ module _ (X : Type 0) where
   FollowingEnds =
       (reasons : X → List X) (rank : X → ℕ) → Descends (λ x y. In y (reasons x)) rank → (x : X)
       → Ends (λ x y. In y (reasons x)) x × ((n : ℕ) → Follows (λ x y. In y (reasons x)) x n → n ≤ rank x)
+
+-- The grade of a derivation by an axiom is the grade that the axiom gives.
+abbrev pub AxiomGrade : (I R G : Type 0) → Type 0
+AxiomGrade I R G = (s : System I R G) → Laws (s .grading) → (r : R) → s .rules .premises r ≡ [] → (ds : Derivations (s .rules) (s .rules .premises r)) → grade s (by r ds) ≡ s .toll r
 
 -- Along a map of grades that keeps the best, joins and tolls, the grade of a derivation goes to its grade.
 abbrev pub GradesFollow : (I R G H : Type 0) → Type 0

@@ -5,7 +5,7 @@ ghost use Rattle.deduction.specs.Theorems.{NextIsBest, SettledIsFinal, Finishe
 ghost use Rattle.deduction.specs.Theorems.{UnsettledIsBounded, ListIsBounded, ListIsKnown};
 ghost use Rattle.deduction.specs.Theorems.{StartHolds, SettlingKeeps};
 ghost use Rattle.deduction.specs.Theorems.{SameLength, KnownOutnumber, OutnumberNoRoom, OutnumberExactly, OverfullOutnumber, FilledExactly};
-ghost use Rattle.deduction.specs.Theorems.{NoneLeadsBack, FollowingEnds, GradesFollow, MoreRules};
+ghost use Rattle.deduction.specs.Theorems.{NoneLeadsBack, FollowingEnds, AxiomGrade, GradesFollow, MoreRules};
 
 // The next to settle has the best grade over all its derivations.
 pub fn next_is_best<I, R, G, S, W>()
@@ -56,9 +56,10 @@ pub fn reasons_end<X>()
     ensures ends { λ _. ⌜ FollowingEnds X ⌝ }
 {}
 
-// Grades follow from one grading to another along a map that keeps joins.
-pub fn grades_follow<I, R, G, H>()
-    ensures { λ _. ⌜ GradesFollow I R G H ⌝ }
+// A derivation by an axiom has the grade that the axiom gives, and grades follow along a map that keeps joins.
+pub fn derivation_grades<I, R, G, H>()
+    ensures lone { λ _. ⌜ AxiomGrade I R G ⌝ }
+    ensures follow { λ _. ⌜ GradesFollow I R G H ⌝ }
 {}
 
 // More rules derive more, at the same grades.
