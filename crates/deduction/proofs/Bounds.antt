@@ -1,9 +1,9 @@
 -- Every derivation is bounded from below by what is settled or waits; the rest of the theory follows from this.
-use mathlib.Core.Path.{_≡_, refl, sym, subst}
-use mathlib.Core.List.{List, [], _∷_}
-use mathlib.Core.Logic.{_⊎_, inl, inr, ⊎-elim, _↔_}
+use mathlib.Core.Path.{subst}
+use mathlib.Core.List.{List, _∷_}
+use mathlib.Core.Logic.{_⊎_, inl, inr, ⊎-elim}
 use Rattle.deduction.specs.Lists.{In}
-use Rattle.deduction.specs.Grades.{Grading, NoWorse, Laws}
+use Rattle.deduction.specs.Grades.{NoWorse, Laws}
 use Rattle.deduction.specs.Derivations.{System, Derivation, Derivations, grade, joined-grade, Derived, BestOf, Joined, joined-none, joined-more}
 use Rattle.deduction.specs.Saturation.{Reached, WaitsBelow, Invariant, Next}
 use Rattle.deduction.proofs.Grades.{no-worse-itself, joins-no-worse}

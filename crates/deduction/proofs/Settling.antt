@@ -1,10 +1,10 @@
 -- The invariant holds at the start, and a settling keeps it.
-use mathlib.Core.Path.{_≡_, refl, sym, ap, subst, subst₂, _∙_}
+use mathlib.Core.Path.{_≡_, sym, ap, subst, subst₂, _∙_}
 use mathlib.Core.List.{List, [], _∷_}
 use mathlib.Core.Logic.{_⊎_, inl, inr, ⊎-elim}
 use Rattle.deduction.specs.Lists.{In}
-use Rattle.deduction.specs.Grades.{Grading, NoWorse, Laws}
-use Rattle.deduction.specs.Derivations.{System, by, none, Derived, Joined, joined-none, joined-more}
+use Rattle.deduction.specs.Grades.{NoWorse, Laws}
+use Rattle.deduction.specs.Derivations.{System, Derived, Joined, joined-none, joined-more}
 use Rattle.deduction.specs.Saturation.{Reached, Known, Invariant, Next, Brought, Settling, Start}
 use Rattle.deduction.proofs.Grades.{no-worse-itself}
 use Rattle.deduction.proofs.Derivations.{joined-weaker, joined-nothing, joined-part, derived-by}

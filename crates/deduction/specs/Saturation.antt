@@ -1,7 +1,7 @@
 -- Best-first saturation: what holds between two settlings, and what a settling does.
 -- `Settled i g` and `Waiting i g` say that item i is settled, or waits, with grade g. How they are stored is left open.
 use mathlib.Core.Path.{_≡_}
-use mathlib.Core.List.{List, []}
+use mathlib.Core.List.{[]}
 use mathlib.Core.Logic.{_⊎_}
 use Rattle.deduction.specs.Lists.{In}
 use Rattle.deduction.specs.Grades.{NoWorse}
