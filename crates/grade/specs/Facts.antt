@@ -1,6 +1,7 @@
 -- Two facts: minutes stop at 1,000,000, and a ranking that is no grade.
 use mathlib.Core.Path.{_≡_}
 use mathlib.Core.Bool.{Bool, not, _&&_, _||_}
+use Prim.Native.Nat.{ℕ, _≤_}
 use native.Mathlib.Omega.{arith}
 use lib.Dec.{T}
 use Rattle.grade.specs.Laws.{KeptRight}
@@ -30,20 +31,31 @@ join-parts a b = record {
   minutes = add-minutes (a .minutes) (b .minutes);
 }
 
+-- class c with m minutes
+abbrev pub ranked : (c m : ℕ) → c ≤ 9 → m ≤ 1000000 → Ranked
+ranked c m low few = record {
+  class = record { class = record { value = c; fits = low } };
+  minutes = record { value = m; capped = few };
+}
+
 abbrev pub class-1-minutes-5 : Ranked
-class-1-minutes-5 = record { class = record { class = record { value = 1; fits = omega arith } }; minutes = record { value = 5; capped = omega arith } }
+class-1-minutes-5 = ranked 1 5 (omega arith) (omega arith)
 
 abbrev pub class-2-minutes-1 : Ranked
-class-2-minutes-1 = record { class = record { class = record { value = 2; fits = omega arith } }; minutes = record { value = 1; capped = omega arith } }
+class-2-minutes-1 = ranked 2 1 (omega arith) (omega arith)
 
 abbrev pub class-2-minutes-0 : Ranked
-class-2-minutes-0 = record { class = record { class = record { value = 2; fits = omega arith } }; minutes = record { value = 0; capped = omega arith } }
+class-2-minutes-0 = ranked 2 0 (omega arith) (omega arith)
 
--- Class 1 with 5 minutes is better than class 2 with 1. With class 2 and 0 minutes joined to both it is worse.
+-- a is no worse than b, and b is worse than a
+abbrev pub Beats : Ranked → Ranked → Type 0
+Beats a b = T (ranks-first a b) × (T (ranks-first b a) → ⊥)
+
+-- Class 1 with 5 minutes beats class 2 with 1; class 2 with 0 minutes joined to both turns that round.
 abbrev pub RankingTurnsRound : Type 0
 RankingTurnsRound =
-    T (ranks-first class-1-minutes-5 class-2-minutes-1)
-    × (T (ranks-first (join-parts class-1-minutes-5 class-2-minutes-0) (join-parts class-2-minutes-1 class-2-minutes-0)) → ⊥)
+    Beats class-1-minutes-5 class-2-minutes-1
+    × Beats (join-parts class-2-minutes-1 class-2-minutes-0) (join-parts class-1-minutes-5 class-2-minutes-0)
 
 -- So this ranking breaks a law that every grade keeps.
 abbrev pub RankingIsNoGrade : Type 0
