@@ -2,6 +2,7 @@
 // places in a lent table.
 ghost use mathlib.Core.Path.{_≡_};
 ghost use mathlib.Core.Bool.{Bool};
+ghost use lib.Dec.{leb};
 ghost use Rattle.grade.specs.Laws.{Total, Transitive, Antisymmetric};
 
 pub trait TotalOrder: Copy {
@@ -16,4 +17,13 @@ pub trait TotalOrder: Copy {
 
     fn no_worse(&self, other: &Self) -> bool
         ensures { λ r. ⌜ r ≡ before (now (self .entry)) (now (other .entry)) ⌝ };
+}
+
+// Numbers, of which less is better.
+pub impl TotalOrder for u32 as NumberOrder {
+    ghost before = { leb };
+
+    fn no_worse(&self, other: &u32) -> bool {
+        *self <= *other
+    }
 }

@@ -1,6 +1,7 @@
 // A priority queue in the first `count` places of a lent slice, for every kind of entry that has an
-// order. It is a binary heap: `put`, `take` and `replace` look at one entry of each level, `find` at
-// all entries. A slice that is no queue is refused, or what comes of it is said all the same.
+// order. It is a binary heap: `put`, `take` and `replace` go along one way from the top to the bottom
+// or back, so they take logarithmic time; `find` looks at all entries. A slice that is no queue is
+// refused with nothing changed, or the contract says what comes of it all the same.
 ghost use mathlib.Core.Path.{_≡_};
 ghost use mathlib.Core.Logic.{_⊎_};
 ghost use Prim.Native.Nat.{ℕ, _+_, _<_, _≤_};
