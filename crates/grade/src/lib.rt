@@ -1,9 +1,3 @@
-<<<<<<< HEAD
-// Tolls: what a move costs. Grades, which tolls are joined into, are built on them.
-mod bounds;
-pub mod toll;
-pub mod upto;
-=======
 // Tolls, what a move costs, and grades, which the tolls of a run are joined into.
 mod bounds;
 pub mod class;
@@ -16,4 +10,3 @@ pub mod theorems;
 pub mod toll;
 pub mod upto;
 pub mod waiting;
->>>>>>> grades
