@@ -1,0 +1,2 @@
+// The order book: a record of tables that takes lines as text and writes them out in order.
+pub mod rule;
