@@ -1,1 +1,3 @@
 pub mod Ascent
+pub mod ByKind
+pub mod Seats

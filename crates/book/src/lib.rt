@@ -1,2 +1,4 @@
 // The order book: a record of tables that takes lines as text and writes them out in order.
+pub mod refusal;
 pub mod rule;
+pub mod tables;
