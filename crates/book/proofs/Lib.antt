@@ -1,3 +1,4 @@
 pub mod Ascent
 pub mod ByKind
 pub mod Seats
+pub mod Books
