@@ -2,3 +2,4 @@ pub mod Ascent
 pub mod ByKind
 pub mod Seats
 pub mod Books
+pub mod Turns

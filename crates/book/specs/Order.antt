@@ -2,7 +2,7 @@
 use mathlib.Core.Path.{_≡_}
 use mathlib.Core.Bool.{Bool, true, false, cond, _||_}
 use mathlib.Core.List.{List, [], _∷_}
-use Prim.Native.Nat.{ℕ, _-_, _<_, _≤_}
+use Prim.Native.Nat.{ℕ, suc, _-_, _<_, _≤_}
 use lib.Dec.{eqb, ltb}
 use lib.ListN.{length, take, drop, replicate}
 use Rattle.std.specs.shelf.Lists.{All}
@@ -21,6 +21,11 @@ among rank r (x ∷ xs) = eqb (rank x) r || among rank r xs
 abbrev pub put : {X : Type 0} → (X → ℕ) → X → List X → List X
 put rank x [] = x ∷ []
 put rank x (y ∷ ys) = cond (ltb (rank y) (rank x)) (y ∷ put rank x ys) (x ∷ (y ∷ ys))
+
+-- how many in front have a rank below r
+abbrev pub lower : {X : Type 0} → (X → ℕ) → ℕ → List X → ℕ
+lower rank r [] = 0
+lower rank r (x ∷ xs) = cond (ltb (rank x) r) (suc (lower rank r xs)) 0
 
 -- a table with this many rows, of which the first n are in use: these ascend, and the rest is blank
 abbrev pub Tidy : {X : Type 0} → (X → ℕ) → X → ℕ → List X → ℕ → Type 0
