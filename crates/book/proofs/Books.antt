@@ -54,8 +54,11 @@ bare-seat : (n : ℕ) (t : Bool) → n < 16 → Seat bares n (bare-line n t)
 bare-seat n false lt = inl refl
 bare-seat n true lt = let e = kept-is 15 n (omega arith) in inr (line.Bare (kept 15 n), (refl, ((refl, tt), omega arith)))
 
+pub at-numbers : (b : Book) → Along At-number 0 (b .rules)
+at-numbers b = along-told At-number at-number-prop 0 (b .rules) (b .numbered .1)
+
 pub rules-seated : (b : Book) → Seated rule-line rules 0 (b .rules)
-rules-seated b = along-weaker At-number (λ m x. Seat rules m (rule-line m x)) rule-seat 0 (b .rules) (along-told At-number at-number-prop 0 (b .rules) (b .numbered .1))
+rules-seated b = along-weaker At-number (λ m x. Seat rules m (rule-line m x)) rule-seat 0 (b .rules) (at-numbers b)
 
 pub ends-seated : (b : Book) → Seated end-line ends 0 (b .ends)
 ends-seated b = let long = b .marked .0 in along-weaker (λ i _. i < 64) (λ m x. Seat ends m (end-line m x)) end-seat 0 (b .ends) (along-below 64 0 (b .ends) (omega arith))
@@ -69,7 +72,7 @@ each : {X : Type 0} (k : Kind) (f : X → Line) → ((x : X) → Of k (f x)) →
 each k f h [] = tt
 each k f h (x ∷ xs) = (h x, each k f h xs)
 
-phases : (b : Book) → All (λ F. F < 2 ^ 64) (b .opens)
+pub phases : (b : Book) → All (λ F. F < 2 ^ 64) (b .opens)
 phases b = all-told (λ F. F < 2 ^ 64) (λ F. le-prop) (b .opens) (b .phases)
 
 pub of-kind : (b : Book) (k : Kind) → All (Of k) (lines-of b k)

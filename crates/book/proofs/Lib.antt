@@ -3,3 +3,4 @@ pub mod ByKind
 pub mod Seats
 pub mod Books
 pub mod Turns
+pub mod Entries

@@ -6,24 +6,20 @@ use mathlib.Core.List.{List, [], _∷_, _++_}
 use Prim.Native.Nat.{ℕ, zero, suc, _+_, _<_, _≤_}
 use native.Mathlib.Omega.{arith}
 use lib.Dec.{eqb}
-use lib.ListN.{length, getD, set}
+use lib.ListN.{length, getD, set, replicate}
 use Rattle.std.specs.shelf.Lists.{All}
 use Rattle.std.proofs.shelf.Tests.{eq-eqb, ne-eqb}
 use Rattle.std.proofs.shelf.Elements.{all-weaker, all-append}
 use Rattle.text.specs.declared.line.Line.{Line}
 use Rattle.book.specs.Order.{Ascending, among, put}
 use Rattle.book.specs.Ranks.{Kind, start, rank}
-use Rattle.book.specs.Tables.{Along, by-number}
+use Rattle.book.specs.Tables.{Along, filled, by-number}
 use Rattle.book.proofs.Ascent.{ascending-append, put-low, put-front, among-append, among-none, parted}
 use Rattle.book.proofs.ByKind.{Of, or-false}
 
 -- at the place with number n of this kind: no line, or one with this number
 abbrev pub Seat : Kind → ℕ → List Line → Type 0
 Seat k n ls = (ls ≡ []) ⊎ ((l : Line) × ((ls ≡ l ∷ []) × (Of k l × (rank l ≡ start k + n))))
-
-abbrev pub filled : List Line → Bool
-filled [] = false
-filled (l ∷ ls) = true
 
 along-prop : {X : Type 0} (P : ℕ → X → Type 0) → ((n : ℕ) (x : X) → IsProp (P n x)) → (n : ℕ) (xs : List X) → IsProp (Along P n xs)
 along-prop P one n [] p q = refl
@@ -40,6 +36,10 @@ along-weaker P Q f n (x ∷ xs) h = (f n x (h .0), along-weaker P Q f (n + 1) xs
 pub along-below : {X : Type 0} (m n : ℕ) (xs : List X) → n + length xs ≤ m → Along (λ i _. i < m) n xs
 along-below m n [] h = tt
 along-below m n (x ∷ xs) h = (omega arith, along-below m (n + 1) xs (omega arith))
+
+pub along-same : {X : Type 0} (P : ℕ → X → Type 0) (x : X) → ((n : ℕ) → P n x) → (m n : ℕ) → Along P n (replicate m x)
+along-same P x h zero n = tt
+along-same P x h (suc m) n = (h n, along-same P x h m (n + 1))
 
 pub along-set : {X : Type 0} (P : ℕ → X → Type 0) (n : ℕ) (xs : List X) (i j : ℕ) (y : X) → n + i ≡ j → P j y → Along P n xs → Along P n (set xs i y)
 along-set P n [] i j y e p h = tt

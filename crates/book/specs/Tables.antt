@@ -45,6 +45,11 @@ end-line k set = cond set (line.End (kept 63 k) ∷ []) []
 abbrev pub bare-line : ℕ → Bool → List Line
 bare-line k set = cond set (line.Bare (kept 15 k) ∷ []) []
 
+-- whether a line stands there
+abbrev pub filled : List Line → Bool
+filled [] = false
+filled (l ∷ ls) = true
+
 -- the lines of such a table, whose first place has number k
 abbrev pub by-number : {X : Type 0} → (ℕ → X → List Line) → ℕ → List X → List Line
 by-number at k [] = []

@@ -5,6 +5,8 @@ ghost use Rattle.std.specs.shelf.Lists.{All};
 ghost use Rattle.book.specs.Order.{Tidy};
 ghost use Rattle.book.specs.Ranks.{phase-rank, watch-rank, link-rank};
 ghost use Rattle.book.specs.Tables.{Along, At-number, blank-watch, blank-link};
+mod accept;
+
 use crate::rule::Rule;
 use text::line::LinkLine;
 use text::line::WatchLine;
