@@ -1,1 +1,17 @@
+pub mod Steps
+pub mod Readers
+pub mod Names
+pub mod Laid
 pub mod Fillings
+pub mod Numbers
+pub mod Filled
+pub mod Verdicts
+pub mod Shapes
+pub mod Local
+pub mod Furthest
+pub mod Right
+pub mod Named
+pub mod Phases
+pub mod Decimals
+pub mod Values
+pub mod Texts

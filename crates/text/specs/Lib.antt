@@ -3,3 +3,5 @@ pub mod Numerals
 pub mod Forms
 pub mod Reading
 pub mod Meaning
+pub mod Steps
+pub mod Writing

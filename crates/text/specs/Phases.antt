@@ -14,7 +14,7 @@ abbrev pub members-below : ℕ → ℕ → List ℕ
 members-below zero F = []
 members-below (suc n) F = members-below n F ++ cond (has F n) (n ∷ []) []
 
-abbrev pub members : ℕ → List ℕ
+unfoldable pub members : ℕ → List ℕ
 members F = members-below 64 F
 
 -- the phase F with these numbers besides
