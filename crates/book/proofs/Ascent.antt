@@ -10,7 +10,7 @@ use lib.Dec.{eqb, ltb}
 use lib.ListN.{length, getD}
 use Rattle.std.specs.shelf.Lists.{All, Has}
 use Rattle.std.proofs.shelf.Tests.{ltb-true, ltb-false, lt-ltb, le-ltb, eqb-true, eqb-false, eq-eqb, ne-eqb, cases-lt, cases-eq, cases-bool, cond-true, cond-false, cond-both, or-parts, or-from, or-cases, or-left, or-right, false≢true}
-use Rattle.std.proofs.shelf.Elements.{all-weaker, all-has, all-append, all-map}
+use Rattle.std.proofs.shelf.Elements.{all-weaker, all-has, all-append, all-map, all-getD}
 use Rattle.book.specs.Order.{Ascending, among, put}
 
 -- ---- heads and tails
@@ -133,6 +133,13 @@ module _ {X : Type 0} (rank : X → ℕ) where
       let below = low .0 in
       (all-append (λ y. rank x < rank y) xs ys (up .0) (all-weaker (λ y. m ≤ rank y) (λ y. rank x < rank y) (λ y le. omega arith) ys high),
       ascending-append m xs ys (up .1) vp (low .1) high)
+
+  pub ascending-at : (xs : List X) (i j : ℕ) (d : X) → Ascending rank xs → i < j → j < length xs → rank (getD xs i d) < rank (getD xs j d)
+  ascending-at [] i j d up lt within = absurd (omega arith)
+  ascending-at (x ∷ xs) zero zero d up lt within = absurd (omega arith)
+  ascending-at (x ∷ xs) zero (suc j) d up lt within = all-getD (λ y. rank x < rank y) xs j d (omega arith) (up .0)
+  ascending-at (x ∷ xs) (suc i) zero d up lt within = absurd (omega arith)
+  ascending-at (x ∷ xs) (suc i) (suc j) d up lt within = ascending-at xs i j d (up .1) (omega arith) (omega arith)
 
   -- a list falls in one way into ranks below m and others
   pub parted : (m : ℕ) (xs ys us vs : List X) → All (λ x. rank x < m) xs → All (λ x. rank x < m) us → All (λ y. m ≤ rank y) ys → All (λ y. m ≤ rank y) vs

@@ -28,7 +28,7 @@ use Rattle.book.specs.Tables.{Along, At-number, rule-line, end-line, bare-line
 use Rattle.book.specs.Lines.{lines-of, lines}
 use Rattle.book.specs.Entering.{clashes, many}
 use Rattle.book.proofs.Ascent.{all-told, ascending-told, ascending-map}
-use Rattle.book.proofs.ByKind.{Of, before, behind, framed, sorted, among-kind, put-kind, many-kind}
+use Rattle.book.proofs.ByKind.{Of, before, behind, framed, sorted, all-within, among-kind, put-kind, many-kind}
 use Rattle.book.proofs.Seats.{Seat, Seated, along-told, along-weaker, along-below, seats-of, seats-up}
 
 -- ---- what stands at a number
@@ -98,6 +98,10 @@ up-kind b bares = seats-up bare-line bares 0 (b .bares) (bares-seated b)
 pub sorted-lines : (b : Book) → Sorted (lines b)
 unfolding lines
 sorted-lines b = sorted (lines-of b) (of-kind b) (up-kind b)
+
+pub within-lines : (b : Book) → All Within (lines b)
+unfolding lines
+within-lines b = all-within (lines-of b) (of-kind b)
 
 pub clash-kind : (b : Book) (l : Line) → Within l → clashes (lines b) l ≡ among rank (rank l) (lines-of b (kind l))
 unfolding lines

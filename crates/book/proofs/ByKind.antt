@@ -121,6 +121,9 @@ module _ (of : Kind → List Line) where
     all-joined P [] h = tt
     all-joined P (j ∷ js) h = all-append P (of j) (joined of js) (all-weaker (Of j) P (h .0) (of j) (each j)) (all-joined P js (h .1))
 
+    pub all-within : All Within (joined of kinds)
+    all-within = let own : (j : Kind) (l : Line) → Of j l → Within l = λ j l o. o .1 in all-joined Within kinds (own rules, (own opens, (own watches, (own links, (own ends, (own bares, tt))))))
+
     pub front-low : (k : Kind) → All (λ l. rank l < start k) (joined of (before k))
     front-low k = all-joined (λ l. rank l < start k) (before k) (all-weaker (λ j. stop j ≤ start k) (λ j. (l : Line) → Of j l → rank l < start k) (λ j le l o. let lt = of-high j l o in omega arith) (before k) (stops-before k))
 

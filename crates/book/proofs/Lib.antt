@@ -4,3 +4,4 @@ pub mod Seats
 pub mod Books
 pub mod Turns
 pub mod Entries
+pub mod Barred

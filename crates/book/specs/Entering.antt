@@ -1,21 +1,17 @@
 -- What it gives to enter a text into a book with these lines.
-use mathlib.Core.Path.{_≡_}
-use mathlib.Core.Logic.{_⊎_}
-use mathlib.Core.Bool.{Bool, true, false, cond}
-use mathlib.Core.List.{List, [], _∷_, _++_}
-use Prim.Native.Nat.{ℕ, _≤_}
+use mathlib.Core.Bool.{Bool, false, cond}
+use mathlib.Core.List.{List, [], _∷_}
+use Prim.Native.Nat.{ℕ}
 use lib.Dec.{eqb, leb}
 use lib.ListN.{length}
-use Rattle.std.specs.shelf.Lists.{Has, kept-by, joined}
+use Rattle.std.specs.shelf.Lists.{kept-by}
 use Rattle.std.specs.declared.result.Result.{Result}
 use Rattle.std.specs.declared.result.Result.the-variants.{Ok, Err}
 use Rattle.text.specs.declared.line.Line.{Line}
 use Rattle.text.specs.declared.line.Line.the-variants.{Order, Notice, Open, Watch, Link, End, Bare}
-use Rattle.text.specs.Forms.{text}
 use Rattle.text.specs.Reading.{Outcome, read}
-use Rattle.text.specs.Meaning.{Says}
 use Rattle.book.specs.declared.refusal.Refusal.{Refusal}
-use Rattle.book.specs.declared.refusal.Refusal.the-variants.{Line as Misread, Stands, Full, NoRoom}
+use Rattle.book.specs.declared.refusal.Refusal.the-variants.{Line as Misread, Stands, Full}
 use Rattle.book.specs.Order.{among, put}
 use Rattle.book.specs.Ranks.{Kind, opens, watches, links, kind, start, rank}
 

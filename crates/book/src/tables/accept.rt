@@ -4,13 +4,17 @@ ghost use mathlib.Core.Bool.{false};
 ghost use lib.ListN.{getD};
 ghost use mathlib.Core.List.{List, []};
 ghost use Prim.Native.Nat.{ℕ, _<_};
+ghost use Rattle.std.specs.Results.{Cases};
+ghost use Rattle.std.specs.declared.result.Result.the-variants.{Ok, Err};
 ghost use Rattle.text.specs.Meaning.{Within};
 ghost use Rattle.book.specs.Order.{put};
 ghost use Rattle.book.specs.Ranks.{rank};
 ghost use Rattle.book.specs.Tables.{nought, blank-watch, blank-link, rule-line, filled};
 ghost use Rattle.book.specs.Lines.{lines};
 ghost use Rattle.book.specs.declared.rule.Rule.the-variants.{Free};
-ghost use Rattle.book.specs.Entering.{clashes, full};
+ghost use Rattle.book.specs.Entering.{clashes, full, entered};
+ghost use Rattle.book.specs.Words.{Joins, Refused};
+use crate::refusal::Refusal;
 use crate::rows::LinkRanked;
 use crate::rows::PhaseRanked;
 use crate::rows::WatchRanked;
@@ -22,6 +26,7 @@ use grade::upto::UpTo;
 use text::line::Line;
 use text::line::LinkLine;
 use text::line::WatchLine;
+use text::reader::read_line;
 
 fn zero<const MAX: u16>() -> UpTo<MAX>
     ensures { λ r. ⌜ r ≡ nought MAX ⌝ }
@@ -124,5 +129,28 @@ impl Book {
             Line::End(t) => self.ends[t.get() as usize] = true,
             Line::Bare(p) => self.bares[p.get() as usize] = true,
         }
+    }
+
+    // Takes a line as text.
+    pub fn accept(&mut self, text: &[u8]) -> Result<(), Refusal>
+        ensures entered { λ r. ⌜ Cases r
+            (λ _. entered (lines (now (self .entry))) (now (text .entry)) ≡ Ok (lines (now (self .exit))))
+            (λ e. (entered (lines (now (self .entry))) (now (text .entry)) ≡ Err e) × (now (self .exit) ≡ now (self .entry))) ⌝ }
+        ensures words { λ r. ⌜ Cases r
+            (λ _. Joins (lines (now (self .entry))) (now (text .entry)) (lines (now (self .exit))))
+            (λ e. Refused (lines (now (self .entry))) (now (text .entry)) e) ⌝ }
+    {
+        let line = match read_line(text) {
+            Ok(line) => line,
+            Err(refusal) => return Err(Refusal::Line(refusal)),
+        };
+        if self.stands(&line) {
+            return Err(Refusal::Stands);
+        }
+        if self.is_full(&line) {
+            return Err(Refusal::Full);
+        }
+        self.enter(line);
+        Ok(())
     }
 }
