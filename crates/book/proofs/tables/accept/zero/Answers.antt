@@ -1,0 +1,6 @@
+use mathlib.Core.Path.{refl}
+use Rattle.grade.proofs.Values.{same-upto}
+use Rattle.book.proofs.tables.accept.zero.Needs as need
+
+pub returns : need.returns
+returns g c = same-upto _ _ _ refl
