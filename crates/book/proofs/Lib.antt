@@ -6,3 +6,5 @@ pub mod Turns
 pub mod Entries
 pub mod Barred
 pub mod Joining
+pub mod Places
+pub mod Written

@@ -6,6 +6,7 @@ ghost use Rattle.book.specs.Order.{Tidy};
 ghost use Rattle.book.specs.Ranks.{phase-rank, watch-rank, link-rank};
 ghost use Rattle.book.specs.Tables.{Along, At-number, blank-watch, blank-link};
 mod accept;
+mod write;
 
 use crate::rule::Rule;
 use text::line::LinkLine;
