@@ -8,3 +8,5 @@ pub mod Barred
 pub mod Joining
 pub mod Places
 pub mod Written
+pub mod Back
+pub mod Told
