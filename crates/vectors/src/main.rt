@@ -20,18 +20,27 @@ fn verdict(heap: Global, line: &str) -> Result<String, AllocError> {
     }
 }
 
-// Each row has the verdict that is wanted, a tab and the line.
+// Whether a row, which has the verdict that is wanted, a tab and the line, gets that verdict.
+fn agrees(heap: Global, row: &str) -> Result<bool, AllocError> {
+    match row.split_once('\t') {
+        Some((wanted, line)) => {
+            let found = verdict(heap, line)?;
+            Ok(found.as_str() == wanted)
+        }
+        None => Ok(false),
+    }
+}
+
 fn lines(rt: &LibcRuntime) -> Result<(), AnyError> {
     let table = fs::read_to_string(rt, "lines.tsv")?;
+    let mut row_number: u32 = 0;
     let mut agree: u32 = 0;
     for row in table.as_str().lines() {
-        if let Some((wanted, line)) = row.split_once('\t') {
-            let found = verdict(rt.alloc(), line)?;
-            if found.as_str() == wanted {
-                agree = agree.saturating_add(1);
-            } else {
-                println!(rt, "{line}: wanted {wanted}, found {found}")?;
-            }
+        row_number = row_number.saturating_add(1);
+        if agrees(rt.alloc(), row)? {
+            agree = agree.saturating_add(1);
+        } else {
+            println!(rt, "row {row_number} differs")?;
         }
     }
     println!(rt, "lines that agree: {agree}")?;
