@@ -74,13 +74,15 @@ module _ {b : Book} {k : Kind} {X : Type 0} (t : Rows b k X) where
     rows-put = ap (map (t .line)) placed ∙ sym (ap (put rank (t .line x)) (t .lines-are) ∙ put-map (t .line) rank (t .low) (start k) (t .rank-is) x (take (t .used) (t .rows)))
 
     pub rows-tidy : Within (t .line x) → clashes (lines b) (t .line x) ≡ false → leb (t .size) (many k (lines b)) ≡ false → length after ≡ length (t .rows) → drop (t .used + 1) after ≡ drop (t .used + 1) (t .rows)
-      → Tidy (t .low) (t .blank) (t .size) after (t .used + 1)
+        → Tidy (t .low) (t .blank) (t .size) after (t .used + 1)
     rows-tidy w new room long rest =
         let free = rows-room room in
-        let e : t .size - t .used - 1 ≡ t .size - (t .used + 1) = omega arith in
-        (long ∙ t .tidy .0, omega arith,
-        ∣ subst (Ascending (t .low)) (sym placed) (put-ascending (t .low) x (take (t .used) (t .rows)) (ascending-told (t .low) (take (t .used) (t .rows)) (t .tidy .2)) (sym (rows-clash x w) ∙ new)) ∣₁,
-        rest ∙ sym (drop-drop 1 (t .used) (t .rows)) ∙ ap (drop 1) (t .tidy .3) ∙ drop-replicate 1 (t .size - t .used) (t .blank) ∙ ap (λ m. replicate m (t .blank)) e)
+        let e : t .size - t .used - 1 ≡ t .size - (t .used + 1) = omega arith in (
+          long ∙ t .tidy .0,
+          omega arith,
+          ∣ subst (Ascending (t .low)) (sym placed) (put-ascending (t .low) x (take (t .used) (t .rows)) (ascending-told (t .low) (take (t .used) (t .rows)) (t .tidy .2)) (sym (rows-clash x w) ∙ new)) ∣₁,
+          rest ∙ sym (drop-drop 1 (t .used) (t .rows)) ∙ ap (drop 1) (t .tidy .3) ∙ drop-replicate 1 (t .size - t .used) (t .blank) ∙ ap (λ m. replicate m (t .blank)) e,
+        )
 
 -- what holds of each row, and of x, holds of each row after x was placed among the first n
 pub all-placed : {X : Type 0} (low : X → ℕ) (P : X → Type 0) (rows after : List X) (n : ℕ) (x : X) → P x → All P rows → take (n + 1) after ≡ put low x (take n rows) → drop (n + 1) after ≡ drop (n + 1) rows → All P after
@@ -90,7 +92,7 @@ all-placed low P rows after n x p h used rest =
 
 -- a place that goes by number
 seat-clash : {X : Type 0} (at : ℕ → X → List Line) (k : Kind) (b : Book) (xs : List X) (d : X) → lines-of b k ≡ by-number at 0 xs → Seated at k 0 xs
-  → (l : Line) (i : ℕ) → kind l ≡ k → Within l → rank l ≡ start k + i → i < length xs → clashes (lines b) l ≡ filled (at i (getD xs i d))
+    → (l : Line) (i : ℕ) → kind l ≡ k → Within l → rank l ≡ start k + i → i < length xs → clashes (lines b) l ≡ filled (at i (getD xs i d))
 seat-clash at k b xs d own seated l i of w is lt =
     clash-kind b l w ∙ ap (λ j. among rank (rank l) (lines-of b j)) of ∙ (λ j. among rank (is j) (own j)) ∙ seats-among at k 0 xs i i d (omega arith) lt seated
 
@@ -99,14 +101,14 @@ unfilled [] e = refl
 unfilled (l ∷ ls) e = absurd (true≢false e)
 
 seat-put : {X : Type 0} (at : ℕ → X → List Line) (k : Kind) (b : Book) (xs : List X) (d : X) → lines-of b k ≡ by-number at 0 xs → Seated at k 0 xs
-  → (l : Line) (i : ℕ) → kind l ≡ k → Within l → rank l ≡ start k + i → i < length xs → clashes (lines b) l ≡ false
-  → (y : X) → at i y ≡ l ∷ [] → by-number at 0 (set xs i y) ≡ put rank l (lines-of b k)
+    → (l : Line) (i : ℕ) → kind l ≡ k → Within l → rank l ≡ start k + i → i < length xs → clashes (lines b) l ≡ false
+    → (y : X) → at i y ≡ l ∷ [] → by-number at 0 (set xs i y) ≡ put rank l (lines-of b k)
 seat-put at k b xs d own seated l i of w is lt new y one =
     seats-put at k 0 xs i i d y l (omega arith) lt seated (unfilled (at i (getD xs i d)) (sym (seat-clash at k b xs d own seated l i of w is lt) ∙ new)) one is
     ∙ ap (put rank l) (sym own)
 
 pub rule-put : (b : Book) (l : Line) (i : ℕ) → kind l ≡ rules → Within l → rank l ≡ i → i < 64 → clashes (lines b) l ≡ false
-  → (r : Rule) → rule-line i r ≡ l ∷ [] → by-number rule-line 0 (set (b .rules) i r) ≡ put rank l (lines-of b rules)
+    → (r : Rule) → rule-line i r ≡ l ∷ [] → by-number rule-line 0 (set (b .rules) i r) ≡ put rank l (lines-of b rules)
 rule-put b l i of w is lt new r one = let long = b .numbered .0 in seat-put rule-line rules b (b .rules) Free refl (rules-seated b) l i of w (omega arith) (omega arith) new r one
 
 pub end-put : (b : Book) (t : UpTo 63) (i : ℕ) → i ≡ t .value → clashes (lines b) (line.End t) ≡ false → by-number end-line 0 (set (b .ends) i true) ≡ put rank (line.End t) (lines-of b ends)
