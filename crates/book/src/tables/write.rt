@@ -115,7 +115,7 @@ impl Book {
     }
 
     // How many bytes the text of the book has.
-    fn text_len(&self) -> usize
+    pub fn text_len(&self) -> usize
         ensures { λ r. ⌜ r ≡ length (book-text (lines (now (self .entry)))) ⌝ }
     {
         let mut n = 0;
