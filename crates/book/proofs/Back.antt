@@ -20,13 +20,13 @@ use Rattle.text.proofs.Right.{reads-right}
 use Rattle.text.proofs.Texts.{text-one-line}
 use Rattle.book.specs.declared.tables.Book.{Book}
 use Rattle.book.specs.Order.{Ascending, put}
-use Rattle.book.specs.Ranks.{Kind, opens, watches, links, kind, rank, Sorted, phase-rank, watch-rank, link-rank}
+use Rattle.book.specs.Ranks.{Kind, opens, watches, links, kind, rank, Sorted}
 use Rattle.book.specs.Lines.{lines}
 use Rattle.book.specs.Entering.{same-kind, many, clashes, full, entered, and-then, entered-all}
 use Rattle.book.specs.Writing.{ended, book-text, before-first, split, Reads-back}
 use Rattle.book.proofs.Ascent.{put-low, among-none}
 use Rattle.book.proofs.Books.{sorted-lines, within-lines}
-use Rattle.book.proofs.Entries.{rows-many}
+use Rattle.book.proofs.Entries.{opens-rows, watches-rows, links-rows, rows-many}
 use Rattle.book.proofs.Joining.{went-in}
 
 -- ---- cutting
@@ -87,12 +87,12 @@ entered-rest xs (l ∷ ys) w up room =
 
 roomy-lines : (b : Book) → Roomy (lines b)
 roomy-lines b =
-    let o = rows-many Open phase-rank opens (λ _. refl) (λ _. refl) b (b .opens) (b .opening) refl 8 (b .opened .0) (b .opened .1) in
-    let w = rows-many Watch watch-rank watches (λ _. refl) (λ _. refl) b (b .watches) (b .watching) refl 128 (b .watched .0) (b .watched .1) in
-    let k = rows-many Link link-rank links (λ _. refl) (λ _. refl) b (b .links) (b .linking) refl 128 (b .linked .0) (b .linked .1) in
-    let o′ = b .opened .1 in
-    let w′ = b .watched .1 in
-    let k′ = b .linked .1 in
+    let o = rows-many (opens-rows b) in
+    let w = rows-many (watches-rows b) in
+    let k = rows-many (links-rows b) in
+    let few = b .opened .1 in
+    let few′ = b .watched .1 in
+    let few″ = b .linked .1 in
     (omega arith, (omega arith, omega arith))
 
 pub reads-back : (b : Book) → Reads-back (lines b)

@@ -124,7 +124,7 @@ along-all b [] = refl
 along-all b (j ∷ js) =
     below-plus (line-along b (j ∷ js)) (places j) (all-places js)
     ∙ (λ i. (below-same (line-along b (j ∷ js)) (line-in b j) (places j) (along-here b j js) ∙ table b j) i
-      ++ (below-same (λ m. line-along b (j ∷ js) (places j + m)) (line-along b js) (all-places js) (λ m lt. along-past b j js (places j + m) m refl) ∙ along-all b js) i)
+    ++ (below-same (λ m. line-along b (j ∷ js) (places j + m)) (line-along b js) (all-places js) (λ m lt. along-past b j js (places j + m) m refl) ∙ along-all b js) i)
 
 pub all-lines : (b : Book) → below (line-at b) 408 ≡ lines b
 unfolding lines all-places

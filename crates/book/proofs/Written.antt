@@ -33,7 +33,7 @@ one-ended t out n e lt =
 
 -- the text e written into the buffer behind t
 pub one-written : (t e start out part : List ℕ) (n r : ℕ) → length t ≡ n → out ≡ t ++ drop n start → r ≡ length e → part ≡ e ++ drop r (take (length out - n) (drop n out))
-  → putMid n (length out - n) out part ≡ (t ++ e) ++ drop (n + r) start
+    → putMid n (length out - n) out part ≡ (t ++ e) ++ drop (n + r) start
 one-written t e start out part n r long is size wrote =
     let front : take n out ≡ t = ap (take n) is ∙ take-at t (drop n start) n long in
     let rest : take (length out - n) (drop n out) ≡ drop n start = take-rest out n ∙ ap (drop n) is ∙ drop-at t (drop n start) n long in

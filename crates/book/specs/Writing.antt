@@ -10,8 +10,10 @@ use Rattle.std.specs.declared.result.Result.the-variants.{Ok}
 use Rattle.text.specs.declared.line.Line.{Line}
 use Rattle.text.specs.Forms.{text}
 use Rattle.book.specs.declared.tables.Book.{Book}
+use Rattle.book.specs.Ranks.{Sorted}
 use Rattle.book.specs.Lines.{lines}
 use Rattle.book.specs.Entering.{entered-all}
+use Rattle.book.specs.Words.{Once}
 
 -- a line with the byte that ends it
 abbrev pub ended : Line → List ℕ
@@ -44,3 +46,11 @@ Told-by-text b = (c : Book) → Same-lines b c ↔ (book-text (lines c) ≡ book
 -- books with the same lines are the same record
 abbrev pub Told-by-lines : Book → Type 0
 Told-by-lines b = (c : Book) → Same-lines b c → c ≡ b
+
+-- what the lines and the text of a book tell
+pub record Tells (b : Book) : Type 0 where
+  pub sorted : Sorted (lines b)
+  pub once : Once (lines b)
+  pub back : Reads-back (lines b)
+  pub text : Told-by-text b
+  pub same : Told-by-lines b

@@ -5,7 +5,9 @@ ghost use Rattle.std.specs.shelf.Lists.{All};
 ghost use Rattle.book.specs.Order.{Tidy};
 ghost use Rattle.book.specs.Ranks.{phase-rank, watch-rank, link-rank};
 ghost use Rattle.book.specs.Tables.{Along, At-number, blank-watch, blank-link};
+
 mod accept;
+mod blank;
 mod write;
 
 use crate::rule::Rule;
@@ -27,6 +29,7 @@ pub struct Book {
     // whether the node, or the mode, with this number has a line
     ends: [bool; 64],
     bares: [bool; 16],
+    // what makes equal books equal records
     ghost numbered: { (length rules ≡ 64) × ∥ Along At-number 0 rules ∥₁ },
     ghost phases: { ∥ All (λ F. F < 2 ^ 64) opens ∥₁ },
     ghost opened: { Tidy phase-rank 0 8 opens opening },

@@ -9,8 +9,7 @@ ghost use Rattle.text.specs.Meaning.{Within};
 ghost use Rattle.book.specs.declared.refusal.Refusal.the-variants.{NoRoom};
 ghost use Rattle.book.specs.Lines.{lines};
 ghost use Rattle.book.specs.Places.{line-at, listing};
-ghost use Rattle.book.specs.Words.{Once};
-ghost use Rattle.book.specs.Writing.{ended, book-text, Reads-back, Told-by-text, Told-by-lines};
+ghost use Rattle.book.specs.Writing.{ended, book-text, Tells};
 use crate::refusal::Refusal;
 use crate::rule::Rule;
 use crate::tables::Book;
@@ -64,22 +63,42 @@ impl Book {
         }
         let k = k - 64;
         if k < 8 {
-            return if k < self.opening { Some(Line::Open(self.opens[k])) } else { None };
+            return if k < self.opening {
+                Some(Line::Open(self.opens[k]))
+            } else {
+                None
+            };
         }
         let k = k - 8;
         if k < 128 {
-            return if k < self.watching { Some(Line::Watch(self.watches[k])) } else { None };
+            return if k < self.watching {
+                Some(Line::Watch(self.watches[k]))
+            } else {
+                None
+            };
         }
         let k = k - 128;
         if k < 128 {
-            return if k < self.linking { Some(Line::Link(self.links[k])) } else { None };
+            return if k < self.linking {
+                Some(Line::Link(self.links[k]))
+            } else {
+                None
+            };
         }
         let k = k - 128;
         if k < 64 {
-            return if self.ends[k] { Some(Line::End(UpTo { value: k as u16 })) } else { None };
+            return if self.ends[k] {
+                Some(Line::End(UpTo { value: k as u16 }))
+            } else {
+                None
+            };
         }
         let k = k - 64;
-        if self.bares[k] { Some(Line::Bare(UpTo { value: k as u16 })) } else { None }
+        if self.bares[k] {
+            Some(Line::Bare(UpTo { value: k as u16 }))
+        } else {
+            None
+        }
     }
 
     // How many lines stand.
@@ -128,10 +147,7 @@ impl Book {
         ensures text { λ r. ⌜ Cases r
             (λ n. (n ≡ length (book-text (lines (now (self .entry))))) × (now (out .exit) ≡ book-text (lines (now (self .entry))) ++ drop n (now (out .entry))))
             (λ e. (e ≡ NoRoom) × ((length (now (out .entry)) < length (book-text (lines (now (self .entry))))) × (now (out .exit) ≡ now (out .entry)))) ⌝ }
-        ensures once { λ _. ⌜ Once (lines (now (self .entry))) ⌝ }
-        ensures back { λ _. ⌜ Reads-back (lines (now (self .entry))) ⌝ }
-        ensures told { λ _. ⌜ Told-by-text (now (self .entry)) ⌝ }
-        ensures same { λ _. ⌜ Told-by-lines (now (self .entry)) ⌝ }
+        ensures tells { λ _. ⌜ Tells (now (self .entry)) ⌝ }
     {
         if out.len() < self.text_len() {
             return Err(Refusal::NoRoom);

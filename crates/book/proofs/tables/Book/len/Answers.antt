@@ -16,14 +16,15 @@ loop-k-again c =
     let k = c .loop-k .k in
     let old = c .loop-k .inv in
     elim (c .if-is-some .came) [
-      then-is-some w ↦
-        let more = one-counted b k (c .at .result) (c .at .ensures) (sym (c .is-some .ensures) ∙ w .if-is-some .taken) in
-        let n = w .n-is in
-        (omega arith, omega arith)
-    | else-is-some w ↦
-        let more = ap length (none-counted b k (c .at .result) (c .at .ensures) (sym (c .is-some .ensures) ∙ w .if-is-some .left)) in
-        let n = w .n-is in
-        (omega arith, omega arith) ]
+      | then-is-some w ↦
+          let more = one-counted b k (c .at .result) (c .at .ensures) (sym (c .is-some .ensures) ∙ w .if-is-some .taken) in
+          let n = w .n-is in
+          (omega arith, omega arith)
+      | else-is-some w ↦
+          let more = ap length (none-counted b k (c .at .result) (c .at .ensures) (sym (c .is-some .ensures) ∙ w .if-is-some .left)) in
+          let n = w .n-is in
+          (omega arith, omega arith)
+    ]
 
 pub returns : need.returns
 returns c = c .loop-k .inv .0 ∙ ap length (all-counted (c .args .self .now) (c .loop-k .k) (c .loop-k-test .left) (c .loop-k .kept .k-end))

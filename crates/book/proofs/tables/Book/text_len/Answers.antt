@@ -18,18 +18,19 @@ loop-k-again c =
     let k = c .loop-k .k in
     let old = c .loop-k .inv in
     elim (c .match-at .came) [
-      in-Some w ↦
-        let l = w .in-Some .line in
-        let more = ap length (text-more b k l (w .in-Some .ensures tt)) in
-        let sum = length-append (book-text (below (line-at b) k)) (ended l) in
-        let end = ended-length l in
-        let n = w .n-is in
-        let size = w .line-len .ensures in
-        (omega arith, omega arith)
-    | in-rest w ↦
-        let same = ap (λ ls. length (book-text ls)) (none-more b k (w .in-rest .ensures tt)) in
-        let n = w .n-is in
-        (omega arith, omega arith) ]
+      | in-Some w ↦
+          let l = w .in-Some .line in
+          let more = ap length (text-more b k l (w .in-Some .ensures tt)) in
+          let sum = length-append (book-text (below (line-at b) k)) (ended l) in
+          let end = ended-length l in
+          let n = w .n-is in
+          let size = w .line-len .ensures in
+          (omega arith, omega arith)
+      | in-rest w ↦
+          let same = ap (λ ls. length (book-text ls)) (none-more b k (w .in-rest .ensures tt)) in
+          let n = w .n-is in
+          (omega arith, omega arith)
+    ]
 
 pub returns : need.returns
 returns c = c .loop-k .inv .0 ∙ ap (λ ls. length (book-text ls)) (all-counted (c .args .self .now) (c .loop-k .k) (c .loop-k-test .left) (c .loop-k .kept .k-end))

@@ -43,20 +43,22 @@ loop-k-again c =
     let k = c .loop-k .k in
     let t = book-text (below (line-at b) k) in
     elim (c .match-at .came) [
-      in-Some w ↦
-        let l = w .in-Some .line in
-        let more = text-more b k l (w .in-Some .ensures tt) in
-        let sum = length-append t (ended l) in
-        let size = w .write-ended-n .ensures .count in
-        let long = ap length more in
-        let old = c .loop-k .inv .0 in
-        let n = w .n-is in
-        (omega arith,
-        w .out-is ∙ one-written t (ended l) (c .args .out .now) (c .loop-k .out) (w .write-ended-n .last .out) (c .loop-k .n) (w .write-ended-n .result) (sym old) (c .loop-k .inv .1) size (w .write-ended-n .ensures .text)
-        ∙ (λ i. sym more i ++ drop (sym n i) (c .args .out .now)))
-    | in-rest w ↦
-        let same = ap book-text (none-more b k (w .in-rest .ensures tt)) in
-        (w .n-is ∙ c .loop-k .inv .0 ∙ sym (ap length same), w .out-is ∙ c .loop-k .inv .1 ∙ (λ i. sym same i ++ drop (sym (w .n-is) i) (c .args .out .now))) ]
+      | in-Some w ↦
+          let l = w .in-Some .line in
+          let more = text-more b k l (w .in-Some .ensures tt) in
+          let sum = length-append t (ended l) in
+          let size = w .write-ended-n .ensures .count in
+          let long = ap length more in
+          let old = c .loop-k .inv .0 in
+          let n = w .n-is in (
+            omega arith,
+            w .out-is ∙ one-written t (ended l) (c .args .out .now) (c .loop-k .out) (w .write-ended-n .last .out) (c .loop-k .n) (w .write-ended-n .result) (sym old) (c .loop-k .inv .1) size (w .write-ended-n .ensures .text)
+                ∙ (λ i. sym more i ++ drop (sym n i) (c .args .out .now)),
+          )
+      | in-rest w ↦
+          let same = ap book-text (none-more b k (w .in-rest .ensures tt)) in
+          (w .n-is ∙ c .loop-k .inv .0 ∙ sym (ap length same), w .out-is ∙ c .loop-k .inv .1 ∙ (λ i. sym same i ++ drop (sym (w .n-is) i) (c .args .out .now)))
+    ]
 
 pub returns : need.returns
 returns c =
