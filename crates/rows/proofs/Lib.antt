@@ -1,0 +1,5 @@
+pub mod Paths
+pub mod Unfold
+pub mod Complete
+pub mod Graded
+pub mod Lines

@@ -1,0 +1,4 @@
+pub mod Rows
+pub mod Paths
+pub mod Ways
+pub mod Theorems
