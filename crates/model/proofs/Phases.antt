@@ -1,10 +1,13 @@
 -- The phase after a notice, as a set.
 use mathlib.Core.Path.{_≡_, refl, sym, ap, _∙_, subst}
+use mathlib.Core.List.{List}
 use Prim.Native.Nat.{ℕ, _^_, _<_}
 use native.Mathlib.Omega.{arith}
 use Rattle.text.specs.declared.line.NoticeLine.{NoticeLine}
+use Rattle.text.specs.declared.line.Line.{Line}
+use Rattle.text.specs.declared.line.Line.the-variants.{Notice, Open}
 use Rattle.text.specs.Phases.{has}
-use Rattle.model.specs.Phases.{InForce, without, with, after}
+use Rattle.model.specs.Phases.{Stands, InForce, without, with, Allows, after, Opened, opened, noticed}
 use Rattle.model.specs.Laws.{NoticesChangePhases, PhasesMeet}
 use Rattle.model.proofs.Sets.{has-with, has-with-other, has-without, has-without-other, with-without, with-below, without-below}
 
@@ -26,6 +29,12 @@ module _ (n : NoticeLine) (F : ℕ) where
   pub after-fits : F < 2 ^ 64 → after n F < 2 ^ 64
   unfolding after
   after-fits fits = with-below 64 (without F (n .loses .value)) (n .gains .value) (without-below 64 F (n .loses .value) fits) (omega (arith, n .gains .fits))
+
+-- what holds of the phases of open lines, and with a phase of those after its notices, holds of every opened phase
+pub opened-within : {ls : List Line} (P : ℕ → Type 0) → ((F : ℕ) → Stands ls (Open F) → P F) → ((F : ℕ) (n : NoticeLine) → P F → Stands ls (Notice n) → Allows n F → P (after n F))
+    → {F : ℕ} → Opened ls F → P F
+opened-within P lines notices (opened {F = F} stands) = lines F stands
+opened-within P lines notices (noticed {F = F} {n = n} before stands allows) = notices F n (opened-within P lines notices before) stands allows
 
 pub notices-change-phases : NoticesChangePhases
 notices-change-phases n F = record {

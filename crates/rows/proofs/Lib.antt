@@ -3,3 +3,5 @@ pub mod Unfold
 pub mod Complete
 pub mod Graded
 pub mod Lines
+pub mod Rules
+pub mod Ways

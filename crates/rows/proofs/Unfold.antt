@@ -2,70 +2,59 @@
 use mathlib.Core.Path.{_≡_, refl, sym, subst}
 use mathlib.Core.List.{List, [], _∷_, _++_}
 use Prim.Native.Nat.{ℕ}
-use Rattle.deduction.specs.Derivations.{Derivation, Derivations, by, none, more, grade}
-use Rattle.text.specs.declared.line.WatchLine.{WatchLine}
-use Rattle.text.specs.declared.line.LinkLine.{LinkLine}
+use Rattle.deduction.specs.Derivations.{Derivations, by, none, more}
 use Rattle.text.specs.declared.line.Line.{Line}
-use Rattle.text.specs.declared.line.Line.the-variants.{Watch, Link}
-use Rattle.model.specs.Phases.{Stands, Opened}
 use Rattle.model.specs.Moves.{Position, at, Move, Step, by-order, by-notice, stay as no-move, go}
-use Rattle.model.specs.Watch.{Leads, ends, links, bare, read, Reaches}
-use Rattle.rows.specs.Rows.{State, head, node, Label, wagon, Row, Path, stay, step, Rule, link-rule, watch-rule, order-rule, notice-rule, premises, conclusion, rule-moves, row-rules}
-use Rattle.rows.specs.Paths.{Stop, end-stop, bare-stop, move-system}
+use Rattle.model.specs.Watch.{Leads, ends, links, Watched, bare, read, Reaches}
+use Rattle.rows.specs.Rows.{State, head, node, wagon, Row, Path, stay, step, Rule, link-rule, watch-rule, order-rule, notice-rule, premises, conclusion, rule-moves, row-rules}
+use Rattle.rows.specs.Paths.{Stop, end-stop, bare-stop}
 use Rattle.rows.specs.Theorems.{Sound, Shows, arrived, moves-on, Unfolds}
 use Rattle.rows.proofs.Paths.{append-paths, row-moves, append-derivations, append-moves}
 
--- What a rule means for the position whose head and top wagon its row starts with, the wagons of w lying below:
--- the watch reads the wagon, or a move is made, after which the premises lead to where the row does.
-pub data Top (ls : List Line) (w : List ℕ) : State → Label → State → List Row → List Move → Type 0 where
-  link-top : {l : LinkLine} → Stands ls (Link l) → Top ls w (node (l .node .value)) (wagon (l .wagon .value)) (node (l .to .value)) [] []
-  watch-top : {v : WatchLine} {F : ℕ} → Stands ls (Watch v) → Opened ls F → Top ls w (head (v .mode .value) F) (wagon (v .wagon .value)) (node (v .node .value)) [] []
-  move-top : {p F k : ℕ} {t : State} {is : List Row} {m : Move} {y : Position} → Step ls (at p F (k ∷ w)) m y
-      → ((js : List Row) (u : State) → Path t w js u → Path (head (y .mode) (y .phase)) (y .lane) (is ++ js) u) → Top ls w (head p F) (wagon k) t is (m ∷ [])
+-- The first row of a path is given by a rule with these premises and moves.
+-- From a node, the watch reads the first wagon, and the other rows lead on from a node, ..
+pub data FromNode (ls : List Line) (t : ℕ) (w : List ℕ) (is : List Row) (u : State) : List Row → List Move → Type 0 where
+  node-reads : {v : ℕ} {rest : List ℕ} → Path (node v) rest is u → (Leads ls v rest → Leads ls t w) → FromNode ls t w is u [] []
 
-pub top : {ls : List Line} (w : List ℕ) (r : Rule ls) → Top ls w (conclusion r .from) (conclusion r .by) (conclusion r .to) (premises r) (rule-moves r)
-top w (link-rule l stands) = link-top stands
-top w (watch-rule v F stands is-open) = watch-top stands is-open
-top w (order-rule o F stands is-open in-force path) = move-top (by-order stands in-force) (λ js u. append-paths path)
-top w (notice-rule n F (wagon k) s stands is-open allows) = move-top (by-notice stands allows) (λ js u. step)
+-- .. and so they may from a head; or a move is made, after which the premises and then the other rows lead on from a head.
+pub data FromHead (ls : List Line) (x : Position) (is : List Row) (u : State) : List Row → List Move → Type 0 where
+  head-reads : {v : ℕ} {rest : List ℕ} → Path (node v) rest is u → (Leads ls v rest → Watched ls x) → FromHead ls x is u [] []
+  head-moves : {parts : List Row} {m : Move} {y : Position} → Step ls x m y → Path (head (y .mode) (y .phase)) (y .lane) (parts ++ is) u → FromHead ls x is u parts (m ∷ [])
 
--- the same for a row with a derivation
-data TopRow (ls : List Line) (w : List ℕ) (i : Row) : List Move → Type 0 where
-  top-row : {is : List Row} {ms : List Move} → Top ls w (i .from) (i .by) (i .to) is ms → (ds : Derivations (row-rules ls) is) → TopRow ls w i (ms ++ row-moves ds)
+pub from-node : {ls : List Line} {t : ℕ} {w : List ℕ} {is : List Row} {u : State} (r : Rule ls) → Path (node t) w (conclusion r ∷ is) u → FromNode ls t w is u (premises r) (rule-moves r)
+from-node (link-rule l stands) (step p) = node-reads p (links stands)
+from-node (watch-rule v F stands is-open) p = elim p [ ]
+from-node (order-rule o F stands is-open in-force path) p = elim p [ ]
+from-node (notice-rule n F l s stands is-open allows) p = elim p [ ]
 
-top-derived : {ls : List Line} (w : List ℕ) {i : Row} (d : Derivation (row-rules ls) i) → TopRow ls w i (grade (move-system ls) d)
-top-derived w (by r ds) = top-row (top w r) ds
+pub from-head : {ls : List Line} {p F : ℕ} {w : List ℕ} {is : List Row} {u : State} (r : Rule ls) → Path (head p F) w (conclusion r ∷ is) u → FromHead ls (at p F w) is u (premises r) (rule-moves r)
+from-head (link-rule l stands) p = elim p [ ]
+from-head (watch-rule v F stands is-open) (step p) = head-reads p (read stands is-open)
+from-head (order-rule o F stands is-open in-force path) (step p) = head-moves (by-order stands in-force) (append-paths path p)
+from-head (notice-rule n F (wagon k) s stands is-open allows) (step p) = head-moves (by-notice stands allows) (step p)
 
-abbrev under : Label → List ℕ → List ℕ
-under (wagon k) w = k ∷ w
+module _ {ls : List Line} where
+  node-rest : {t : ℕ} {w : List ℕ} {is js : List Row} {u : State} {ms : List Move} → FromNode ls t w js u is ms → (ds : Derivations (row-rules ls) is) (ns : List Move)
+      → ((v : ℕ) (rest : List ℕ) → Path (node v) rest js u → Leads ls v rest × (ns ≡ [])) → Leads ls t w × ((ms ++ row-moves ds) ++ ns ≡ [])
+  node-rest (node-reads {v = v} {rest = rest} p leads) none ns after = let (reads, no-moves) = after v rest p in (leads reads, no-moves)
 
--- what an accepting path shows: from a node, that the watch reads the lane, without a move
-abbrev ShowsAt : List Line → State → List ℕ → List Move → Type 0
-ShowsAt ls (head p F) w ms = Shows ls (at p F w) ms
-ShowsAt ls (node t) w ms = Leads ls t w × (ms ≡ [])
+  -- derived rows from a node are links, and make no move
+  pub node-path : {t : ℕ} {w : List ℕ} {is : List Row} {u : State} → Path (node t) w is u → (ds : Derivations (row-rules ls) is) → Stop ls u → Leads ls t w × (row-moves ds ≡ [])
+  node-path stay none (end-stop t stands) = (ends stands, refl)
+  node-path {t = t} {w = w} p (more (by r ds) es) stop = node-rest (from-node r p) ds (row-moves es) (λ v rest q. node-path {t = v} {w = rest} q es stop)
 
-shows-stop : {ls : List Line} {s : State} → Stop ls s → ShowsAt ls s [] []
-shows-stop (end-stop t stands) = (ends stands, refl)
-shows-stop (bare-stop p F stands is-open) = arrived (bare stands is-open)
+  head-rest : {x : Position} {is js : List Row} {u : State} {ms : List Move} → FromHead ls x js u is ms → (ds : Derivations (row-rules ls) is) (es : Derivations (row-rules ls) js) → Stop ls u
+      → Shows ls x ((ms ++ row-moves ds) ++ row-moves es)
+  head-rest {x} (head-reads p leads) none es stop = let (rest, no-moves) = node-path p es stop in subst (Shows ls x) (sym no-moves) (arrived (leads rest))
+  head-rest {js = js} {u = u} (head-moves {parts = is} makes p) ds es stop =
+      moves-on makes (record { rows = is ++ js; last = u; path = p; derived = append-derivations ds es; stop = stop }) (append-moves ds es)
 
-shows-top : {ls : List Line} {s t u : State} {l : Label} {w : List ℕ} {is js : List Row} {ms : List Move} → Top ls w s l t is ms → (ds : Derivations (row-rules ls) is)
-    → Path t w js u → (es : Derivations (row-rules ls) js) → Stop ls u → ShowsAt ls t w (row-moves es) → ShowsAt ls s (under l w) ((ms ++ row-moves ds) ++ row-moves es)
-shows-top (link-top stands) none p es stop (leads, no-moves) = (links stands leads, no-moves)
-shows-top {ls} {w = w} (watch-top {v = v} {F = F} stands is-open) none p es stop (leads, no-moves) =
-    subst (Shows ls (at (v .mode .value) F (v .wagon .value ∷ w))) (sym no-moves) (arrived (read stands is-open leads))
-shows-top {u = u} {js = js} (move-top {is = is} makes leads) ds p es stop rest =
-    moves-on makes (record { rows = is ++ js; last = u; path = leads js u p; derived = append-derivations ds es; stop = stop }) (append-moves ds es)
-
-shows-row : {ls : List Line} {u : State} {i : Row} {w : List ℕ} {js : List Row} {ms : List Move} → TopRow ls w i ms → Path (i .to) w js u → (es : Derivations (row-rules ls) js) → Stop ls u
-    → ShowsAt ls (i .to) w (row-moves es) → ShowsAt ls (i .from) (under (i .by) w) (ms ++ row-moves es)
-shows-row (top-row top ds) p es stop rest = shows-top top ds p es stop rest
-
-pub shows : {ls : List Line} {s u : State} {w : List ℕ} {is : List Row} → Path s w is u → (ds : Derivations (row-rules ls) is) → Stop ls u → ShowsAt ls s w (row-moves ds)
-shows stay none stop = shows-stop stop
-shows (step {w = w} p) (more d ds) stop = shows-row (top-derived w d) p ds stop (shows p ds stop)
+  head-path : {p F : ℕ} {w : List ℕ} {is : List Row} {u : State} → Path (head p F) w is u → (ds : Derivations (row-rules ls) is) → Stop ls u → Shows ls (at p F w) (row-moves ds)
+  head-path stay none (bare-stop p F stands is-open) = arrived (bare stands is-open)
+  head-path p (more (by r ds) es) stop = head-rest (from-head r p) ds es stop
 
 pub unfolds : Unfolds
-unfolds ls x a = shows (a .path) (a .derived) (a .stop)
+unfolds ls x a = head-path (a .path) (a .derived) (a .stop)
 
 -- Each move that is shown can be made, so all of them make a run.
 shown-run : (ls : List Line) (ms : List Move) {x : Position} → Shows ls x ms → Reaches ls x ms

@@ -35,6 +35,23 @@ pub data Path : State → List ℕ → List Row → State → Type 0 where
   stay : {s : State} → Path s [] [] s
   step : {s t u : State} {k : ℕ} {w : List ℕ} {is : List Row} → Path t w is u → Path s (k ∷ w) (row s (wagon k) t ∷ is) u
 
+-- the rows that rules speak of: those of a link line and of a watch line in phase F, ..
+abbrev pub link-row : LinkLine → Row
+link-row l = row (node (l .node .value)) (wagon (l .wagon .value)) (node (l .to .value))
+
+abbrev pub watch-row : WatchLine → (F : ℕ) → Row
+watch-row v F = row (head (v .mode .value) F) (wagon (v .wagon .value)) (node (v .node .value))
+
+-- .. that from the head before an order by the wagon that it takes, and those from the heads before and after a notice
+abbrev pub order-row : OrderLine → (F : ℕ) → State → Row
+order-row o F s = row (head (o .mode .value) F) (wagon (o .wagon .value)) s
+
+abbrev pub notice-row : NoticeLine → (F : ℕ) → Label → State → Row
+notice-row n F l s = row (head (n .mode .value) F) l s
+
+abbrev pub noticed-row : NoticeLine → (F : ℕ) → Label → State → Row
+noticed-row n F l s = row (head (n .to .value) (after n F)) l s
+
 -- The rules for the rows of a book, each with every part named.
 pub data Rule (ls : List Line) : Type 0 where
   -- a link line is a row
@@ -52,14 +69,14 @@ module _ {ls : List Line} where
   premises (link-rule l stands) = []
   premises (watch-rule v F stands is-open) = []
   premises (order-rule o F {is} stands is-open in-force path) = is
-  premises (notice-rule n F l s stands is-open allows) = row (head (n .to .value) (after n F)) l s ∷ []
+  premises (notice-rule n F l s stands is-open allows) = noticed-row n F l s ∷ []
 
   -- the row that it gives
   abbrev pub conclusion : Rule ls → Row
-  conclusion (link-rule l stands) = row (node (l .node .value)) (wagon (l .wagon .value)) (node (l .to .value))
-  conclusion (watch-rule v F stands is-open) = row (head (v .mode .value) F) (wagon (v .wagon .value)) (node (v .node .value))
-  conclusion (order-rule o F {s = s} stands is-open in-force path) = row (head (o .mode .value) F) (wagon (o .wagon .value)) s
-  conclusion (notice-rule n F l s stands is-open allows) = row (head (n .mode .value) F) l s
+  conclusion (link-rule l stands) = link-row l
+  conclusion (watch-rule v F stands is-open) = watch-row v F
+  conclusion (order-rule o F {s = s} stands is-open in-force path) = order-row o F s
+  conclusion (notice-rule n F l s stands is-open allows) = notice-row n F l s
 
   -- the move that it stands for, if it is one
   abbrev pub rule-moves : Rule ls → List Move
