@@ -1,0 +1,7 @@
+pub mod Paths
+pub mod Unfold
+pub mod Complete
+pub mod Graded
+pub mod Lines
+pub mod Rules
+pub mod Ways

@@ -1,0 +1,5 @@
+pub mod Rows
+pub mod Paths
+pub mod Ways
+pub mod Chains
+pub mod Theorems
