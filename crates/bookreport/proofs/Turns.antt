@@ -32,7 +32,7 @@ module _ (ls ms : List Line) (s : List ℕ) (ss rest : List (List ℕ)) (n : ℕ
 
 -- what is printed, put together
 pub report-is : (ks ls : List Line) (s none notes out : List ℕ) (read bad standing bytes : ℕ) → ks ≡ [] → none ≡ [] → Entered ks s none ls notes read bad
-  → out ≡ notes ++ book-text ls → standing ≡ length ls → bytes ≡ length (book-text ls) → out ++ words read bad standing bytes ≡ report s
+    → out ≡ notes ++ book-text ls → standing ≡ length ls → bytes ≡ length (book-text ls) → out ++ words read bad standing bytes ≡ report s
 report-is ks ls s none notes out read bad standing bytes no-lines nothing h e f g =
     let ss = split s in
     let listed : ls ≡ book-after [] ss = h .book ∙ ap (λ l. book-after l ss) no-lines in

@@ -47,7 +47,13 @@ fn note(heap: Global, line: usize, refusal: &Refusal) -> Result<String, AllocErr
 }
 
 // Enters one line, and notes a refusal; says whether the line was refused.
-fn enter_line(heap: Global, book: &mut Book, line: &[u8], number: usize, notes: &mut Vec<u8>) -> Result<bool, AllocError>
+fn enter_line(
+    heap: Global,
+    book: &mut Book,
+    line: &[u8],
+    number: usize,
+    notes: &mut Vec<u8>,
+) -> Result<bool, AllocError>
     ensures { λ r. ⌜ made r (λ no.
         (vec-items (now (notes .exit)) ≡ vec-items (now (notes .entry)) ++ joined note-text (noted number (entered (lines (now (book .entry))) (now (line .entry)))))
         × (lines (now (book .exit)) ≡ kept (lines (now (book .entry))) (entered (lines (now (book .entry))) (now (line .entry))))
@@ -71,7 +77,12 @@ struct Counts {
 }
 
 // Enters the lines of a text one after another, and notes each refusal.
-fn enter_lines(heap: Global, text: &[u8], book: &mut Book, notes: &mut Vec<u8>) -> Result<Counts, AllocError>
+fn enter_lines(
+    heap: Global,
+    text: &[u8],
+    book: &mut Book,
+    notes: &mut Vec<u8>,
+) -> Result<Counts, AllocError>
     ensures { λ r. ⌜ made r (λ k. Entered (lines (now (book .entry))) (now (text .entry)) (vec-items (now (notes .entry))) (lines (now (book .exit))) (vec-items (now (notes .exit))) (k .read) (k .refused)) ⌝ }
 {
     let mut rest = text;
@@ -104,13 +115,21 @@ fn append_book(heap: Global, book: &Book, out: &mut Vec<u8>) -> Result<usize, Al
 }
 
 // What is said at the end.
-fn closing(heap: Global, counts: Counts, standing: usize, bytes: usize) -> Result<String, AllocError>
+fn closing(
+    heap: Global,
+    counts: Counts,
+    standing: usize,
+    bytes: usize,
+) -> Result<String, AllocError>
     ensures { λ r. ⌜ made r (λ t. string-bytes t ≡ words (counts .read) (counts .refused) standing bytes) ⌝ }
 {
     let read = counts.read;
     let refused = counts.refused;
     let kept = read.saturating_sub(refused);
-    format!(heap, "lines read {read}, kept {kept}, refused {refused}; the book has lines {standing}, bytes {bytes}\n")
+    format!(
+        heap,
+        "lines read {read}, kept {kept}, refused {refused}; the book has lines {standing}, bytes {bytes}\n"
+    )
 }
 
 // What is printed of a text: each refusal, the book in its one order, and what was done.

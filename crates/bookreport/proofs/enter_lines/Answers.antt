@@ -23,10 +23,11 @@ loop-line-again-then-branch c =
     let k = c .in-Continue-enter-line .ensures tt in
     let one = sym (k .2) ∙ ap (λ b. cond b 1 0) (c .if-branch .taken) in
     let count = count-on ls ms s ss rest n (e .0) (k .1) in
-    let read = ap length (e .0) in
-    (book-on ls ms s ss rest n (e .0) (k .1) ∙ h .0,
-    notes-on ls ms s ss rest n (e .0) (k .1) (vec-items (c .loop-line .notes)) (vec-items (c .enter-line .last .notes)) (k .0) ∙ h .1,
-    omega (arith, read, h .2),
-    omega (arith, one, count, h .3),
-    omega (arith, h .4),
-    omega (arith, h .5, e .1))
+    let read = ap length (e .0) in (
+      book-on ls ms s ss rest n (e .0) (k .1) ∙ h .0,
+      notes-on ls ms s ss rest n (e .0) (k .1) (vec-items (c .loop-line .notes)) (vec-items (c .enter-line .last .notes)) (k .0) ∙ h .1,
+      omega (arith, read, h .2),
+      omega (arith, one, count, h .3),
+      omega (arith, h .4),
+      omega (arith, h .5, e .1),
+    )
