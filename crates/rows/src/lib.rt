@@ -43,7 +43,7 @@ pub fn part_bounds_runs<G: Grade, S, W>()
     lawful::<G>();
 }
 
-// Rows that name what they were made from show a run of the best grade, move by move.
+// Rows that name what they were made from show a run, move by move, of exactly the grade that theirs join to.
 pub fn reasons_show_runs<G: Grade, K>()
     ensures show { λ _. ⌜ ReasonsShow G·Grade K ⌝ }
     ensures turn { λ _. ⌜ ReasonsTurn K ⌝ }
