@@ -1,12 +1,12 @@
 -- What several forms make of a text together. Assumes nothing.
 use mathlib.Core.Path.{_≡_, refl, sym, ap, subst, _∙_}
-use mathlib.Core.Bool.{Bool, true, false, cond}
+use mathlib.Core.Bool.{true}
 use mathlib.Core.Logic.{_⊎_, inl, inr, ⊎-elim}
 use mathlib.Core.List.{List, [], _∷_, _++_}
-use Prim.Native.Nat.{ℕ, zero, suc, max, _+_, _-_, _*_, _≤_, _<_}
+use Prim.Native.Nat.{ℕ, zero, suc, max, _+_, _-_, _*_, _≤_}
 use native.Mathlib.Omega.{arith}
 use lib.ListN.{length, take, getD}
-use Rattle.std.proofs.shelf.Lists.{length-append, length-take-le, getD-append-left, take-append-le, take-take, take-all}
+use Rattle.std.proofs.shelf.Lists.{length-take-le, getD-append-left, take-append-le, take-take}
 use Rattle.std.proofs.shelf.Tests.{cases-lt}
 use Rattle.std.proofs.shelf.Elements.{all-has, all-weaker}
 use Rattle.std.specs.shelf.Lists.{All, Has}
@@ -14,13 +14,13 @@ use Rattle.std.specs.declared.result.Result.the-variants.{Ok, Err}
 use Rattle.text.specs.declared.line.Line.{Line}
 use Rattle.text.specs.declared.refusal.LineRefusal.the-variants.{Syntax, TooLarge, NotRising}
 use Rattle.text.specs.Forms.{Part, Form, word, number, wagons, rising, forms}
-use Rattle.text.specs.Reading.{Outcome, scan, by-form, further, by-forms}
+use Rattle.text.specs.Reading.{Outcome, by-form, further, by-forms}
 use Rattle.text.specs.Meaning.{Filling, Proper, filled, Mark, marks, Shape, Begins, Stops}
 use Rattle.text.proofs.Fillings.{meant}
 use Rattle.text.proofs.Filled.{is-syntax, Clear, clear-from, Late, parted, scan-filled}
 use Rattle.text.proofs.Verdicts.{Verdict, fine, large, falling, verdict}
-use Rattle.text.proofs.Shapes.{Of, Halts, Tells, complete, scan-tells}
-use Rattle.text.proofs.Local.{LocalAt, scan-local, same-place}
+use Rattle.text.proofs.Shapes.{Of, complete, scan-tells}
+use Rattle.text.proofs.Local.{scan-local, same-place}
 
 has-head : {X : Type 0} (x : X) (xs : List X) → Has (x ∷ xs) x
 has-head x xs = (0, omega arith, λ d. refl)

@@ -1,18 +1,18 @@
 -- A number that stands at the front of a text, and how the reader takes it. Assumes nothing.
-use mathlib.Core.Path.{_≡_, refl, sym, ap, subst, _∙_}
-use mathlib.Core.Bool.{Bool, true, false, cond}
+use mathlib.Core.Path.{_≡_, refl, sym, ap, _∙_}
+use mathlib.Core.Bool.{true, false, cond}
 use mathlib.Core.Logic.{_⊎_, inl, inr, ⊎-elim}
 use mathlib.Core.List.{List, [], _∷_, _++_}
-use Prim.Native.Nat.{ℕ, suc, _+_, _-_, _*_, _≤_, _<_}
+use Prim.Native.Nat.{ℕ, suc, _+_, _-_, _*_, _≤_}
 use native.Mathlib.Omega.{arith}
 use lib.Dec.{eqb, ltb}
-use lib.ListN.{length, take}
-use Rattle.std.proofs.shelf.Tests.{cond-true, cond-false, cases-bool, cases-eq, eq-eqb, ne-eqb}
-use Rattle.std.specs.declared.result.Result.the-variants.{Ok, Err}
+use lib.ListN.{length}
+use Rattle.std.proofs.shelf.Tests.{cond-true, cond-false, cases-bool, cases-eq, ne-eqb}
+use Rattle.std.specs.declared.result.Result.the-variants.{Err}
 use Rattle.text.specs.declared.refusal.LineRefusal.the-variants.{Syntax}
 use Rattle.grade.specs.declared.upto.UpTo.{UpTo}
 use Rattle.text.specs.Numerals.{digit, Digits, Numeral, value, value-after, Taken, digits, numeral, starts, kept}
-use Rattle.text.specs.Reading.{Outcome, Next, noted, take-number}
+use Rattle.text.specs.Reading.{Next, noted, take-number}
 
 -- a number with these digits ends where t begins
 abbrev pub Ended : List ℕ → List ℕ → Type 0

@@ -1,24 +1,22 @@
 -- Reading a text gives what it says, and nothing else is said. Assumes nothing.
 use mathlib.Core.Path.{_≡_, refl, sym, ap, subst, _∙_}
-use mathlib.Core.Bool.{Bool, true, false, cond}
-use mathlib.Core.Logic.{_⊎_, inl, inr, ⊎-elim}
-use mathlib.Core.List.{List, [], _∷_, _++_}
-use Prim.Native.Nat.{ℕ, _+_, _-_, _≤_, _<_}
+use mathlib.Core.Logic.{inl, inr, ⊎-elim}
+use mathlib.Core.List.{List, _++_}
+use Prim.Native.Nat.{ℕ, _-_, _≤_, _<_}
 use native.Mathlib.Omega.{arith}
 use lib.Dec.{ltb}
 use lib.ListN.{length, take, drop}
 use Rattle.std.proofs.shelf.Lists.{append-assoc, take-append-drop, take-take}
 use Rattle.std.proofs.shelf.Tests.{cond-both, cases-order, ltb-true, ltb-false}
 use Rattle.std.proofs.shelf.Elements.{all-has}
-use Rattle.std.specs.shelf.Lists.{All, Has}
+use Rattle.std.specs.shelf.Lists.{All}
 use Rattle.std.specs.declared.result.Result.the-variants.{Ok, Err}
 use Rattle.text.specs.declared.line.Line.{Line}
-use Rattle.text.specs.declared.line.Line.the-variants.{Order, Notice, Open, Watch, Link, End, Bare}
 use Rattle.text.specs.declared.refusal.LineRefusal.the-variants.{Syntax, TooLarge, NotRising}
-use Rattle.text.specs.Forms.{Part, Form, Values, spelled, text, forms, order-form, notice-form, open-form, watch-form, link-form, end-form, bare-form}
-use Rattle.text.specs.Reading.{Outcome, by-form, by-forms, read}
-use Rattle.text.specs.Meaning.{Filling, Proper, filled, Mark, marks, Shape, Begins, Stops, FirstAt, Above, Falls, numbers, Within, Says, Reads-right}
-use Rattle.text.proofs.Fillings.{meant, Sized}
+use Rattle.text.specs.Forms.{Form, text, forms, order-form}
+use Rattle.text.specs.Reading.{Outcome, by-forms}
+use Rattle.text.specs.Meaning.{Mark, Shape, Begins, Stops, FirstAt, Above, Falls, numbers, Within, Says, Reads-right}
+use Rattle.text.proofs.Fillings.{meant}
 use Rattle.text.proofs.Values.{filled-spelled, spelled-filled, small-form, text-form, formed, length-text}
 use Rattle.text.proofs.Filled.{Clear}
 use Rattle.text.proofs.Verdicts.{Not, Verdict, fine, large, falling, first-none, first-one}

@@ -3,14 +3,14 @@ use mathlib.Core.Path.{_≡_, refl, sym, ap, subst, _∙_}
 use mathlib.Core.Bool.{Bool, true, false, cond}
 use mathlib.Core.Logic.{_⊎_, inl, inr, ⊎-elim}
 use mathlib.Core.List.{List, [], _∷_, _++_}
-use Prim.Native.Nat.{ℕ, zero, suc, _+_, _-_, _≤_, _<_}
+use Prim.Native.Nat.{ℕ, zero, suc, _+_, _-_, _≤_}
 use native.Mathlib.Omega.{arith}
 use lib.Dec.{eqb}
 use lib.ListN.{length, take}
 use Rattle.std.proofs.shelf.Lists.{append-assoc, length-append}
 use Rattle.std.proofs.shelf.Tests.{cases-bool, cond-both, eqb-true}
 use Rattle.std.specs.shelf.Lists.{All, joined}
-use Rattle.std.specs.declared.result.Result.the-variants.{Ok, Err}
+use Rattle.std.specs.declared.result.Result.the-variants.{Err}
 use Rattle.grade.specs.declared.upto.UpTo.{UpTo}
 use Rattle.text.specs.declared.line.Line.{Line}
 use Rattle.text.specs.declared.refusal.LineRefusal.the-variants.{Syntax}
@@ -20,7 +20,7 @@ use Rattle.text.specs.Forms.{Part, Values, word, number, wagons, rising}
 use Rattle.text.specs.Reading.{Outcome, Next, take-word, take-number, take-numbers, wagons-of, values-of, many, scan}
 use Rattle.text.specs.Meaning.{Filling, Proper, blank-digits, filled}
 use Rattle.text.proofs.Filled.{Clear, settled-clear}
-use Rattle.text.proofs.Numbers.{Numbered, numbered, number-taken, number-refused}
+use Rattle.text.proofs.Numbers.{numbered, number-taken, number-refused}
 
 abbrev pub Texts : Type 1
 Texts = List ℕ → Type 0

@@ -7,13 +7,13 @@ use Prim.Native.Nat.{ℕ, _+_, _≤_, _<_}
 use native.Mathlib.Omega.{arith}
 use lib.Dec.{eqb, ltb}
 use lib.ListN.{length}
-use Rattle.std.proofs.shelf.Tests.{cond-true, cond-false, cases-bool, cases-eq, ne-eqb, ltb-true, ltb-false, le-ltb}
+use Rattle.std.proofs.shelf.Tests.{cond-true, cond-false, cases-bool, ne-eqb, ltb-true, ltb-false, le-ltb}
 use Rattle.std.proofs.shelf.Elements.{all-append}
 use Rattle.std.specs.shelf.Lists.{All, joined}
 use Rattle.std.specs.declared.result.Result.the-variants.{Ok, Err}
 use Rattle.text.specs.declared.line.Line.{Line}
-use Rattle.text.specs.declared.refusal.LineRefusal.the-variants.{Syntax, TooLarge, NotRising}
-use Rattle.text.specs.Numerals.{value, kept}
+use Rattle.text.specs.declared.refusal.LineRefusal.the-variants.{TooLarge, NotRising}
+use Rattle.text.specs.Numerals.{value}
 use Rattle.text.specs.Forms.{Part, word, number, wagons, rising}
 use Rattle.text.specs.Reading.{Outcome, noted}
 use Rattle.text.specs.Meaning.{Filling, blank-digits, Mark, list-marks, marks, FirstAt, Above, Falls}
@@ -38,6 +38,13 @@ list-within most rise p least (ds ∷ dss) h =
     (λ i. record { place = p + 1; limit = most; least = least; value = e i } ∷ kept-list most rise q (cond rise (e i + 1) 0) dss)
     ∙ (λ i. record { place = p + 1; limit = most; least = least; value = value ds } ∷ list-within most rise q (cond rise (value ds + 1) 0) dss (h .1) i)
 
+behind-within : (most : ℕ) (rise : Bool) (p : ℕ) (dss : List (List ℕ)) (ks ms : List Mark) → (All (Not Above) ms → ks ≡ ms) → All (Not Above) (list-marks most rise p 0 dss ++ ms) → kept-list most rise p 0 dss ++ ks ≡ list-marks most rise p 0 dss ++ ms
+behind-within most rise p dss ks ms to h =
+    let hs = all-parts (Not Above) (list-marks most rise p 0 dss) ms h in
+    let e = list-within most rise p 0 dss (hs .0) in
+    let f = to (hs .1) in
+    λ i. e i ++ f i
+
 marks-within : (ps : List Part) (r : Filling ps) (p : ℕ) → All (Not Above) (marks ps r p) → kept-marks ps r p ≡ marks ps r p
 marks-within [] r p h = refl
 marks-within (word w ∷ ps) r p h = marks-within ps r (p + length w) h
@@ -47,16 +54,10 @@ marks-within (number most ∷ ps) r p h =
     λ i. record { place = p; limit = most; least = 0; value = e i } ∷ ih i
 marks-within (wagons ∷ ps) r p h =
     let q : ℕ = p + length (joined blank-digits (r .0)) in
-    let hs = all-parts (Not Above) (list-marks 31 false p 0 (r .0)) (marks ps (r .1) q) h in
-    let e = list-within 31 false p 0 (r .0) (hs .0) in
-    let ih = marks-within ps (r .1) q (hs .1) in
-    λ i. e i ++ ih i
+    behind-within 31 false p (r .0) (kept-marks ps (r .1) q) (marks ps (r .1) q) (marks-within ps (r .1) q) h
 marks-within (rising ∷ ps) r p h =
     let q : ℕ = p + length (joined blank-digits (r .0)) in
-    let hs = all-parts (Not Above) (list-marks 63 true p 0 (r .0)) (marks ps (r .1) q) h in
-    let e = list-within 63 true p 0 (r .0) (hs .0) in
-    let ih = marks-within ps (r .1) q (hs .1) in
-    λ i. e i ++ ih i
+    behind-within 63 true p (r .0) (kept-marks ps (r .1) q) (marks ps (r .1) q) (marks-within ps (r .1) q) h
 
 abbrev Placed : Mark → Type 0
 Placed m = 1 ≤ m .place

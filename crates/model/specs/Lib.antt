@@ -1,0 +1,4 @@
+pub mod Phases
+pub mod Moves
+pub mod Watch
+pub mod Laws
