@@ -5,3 +5,4 @@ pub mod Books
 pub mod Turns
 pub mod Entries
 pub mod Barred
+pub mod Joining
