@@ -83,10 +83,10 @@ module _ {X : Type 0} (rank : X → ℕ) where
       cond-both (ltb (rank y) (rank x)) (y ∷ put rank x ys) (x ∷ (y ∷ ys)) (Ascending rank)
       (λ e. (put-all (λ z. rank y < rank z) x ys (ltb-true (rank y) (rank x) e) (up .0), put-ascending x ys (up .1) (apart .1)))
       (λ e.
-          let le = ltb-false (rank y) (rank x) e in
-          let ne = eqb-false (rank y) (rank x) (apart .0) in
-          let lt : rank x < rank y = omega arith in
-          ((lt, all-weaker (λ z. rank y < rank z) (λ z. rank x < rank z) (λ z more. omega arith) ys (up .0)), up))
+      let le = ltb-false (rank y) (rank x) e in
+      let ne = eqb-false (rank y) (rank x) (apart .0) in
+      let lt : rank x < rank y = omega arith in
+      ((lt, all-weaker (λ z. rank y < rank z) (λ z. rank x < rank z) (λ z more. omega arith) ys (up .0)), up))
 
   pub put-has : (x : X) (xs : List X) (z : X) → Has (put rank x xs) z → Has xs z ⊎ (z ≡ x)
   put-has x [] z h = ⊎-elim (λ e. inr (sym e)) (λ at. absurd (has-none z at)) (has-cases x [] z h)
@@ -101,8 +101,8 @@ module _ {X : Type 0} (rank : X → ℕ) where
   has-put x (y ∷ ys) z h =
       cond-both (ltb (rank y) (rank x)) (y ∷ put rank x ys) (x ∷ (y ∷ ys)) (λ l. Has l z)
       (λ _. ⊎-elim
-          (λ at. ⊎-elim (λ e. subst (Has (y ∷ put rank x ys)) e (has-here y (put rank x ys))) (λ in′. has-there y (put rank x ys) z (has-put x ys z (inl in′))) (has-cases y ys z at))
-          (λ e. has-there y (put rank x ys) z (has-put x ys z (inr e))) h)
+      (λ at. ⊎-elim (λ e. subst (Has (y ∷ put rank x ys)) e (has-here y (put rank x ys))) (λ in′. has-there y (put rank x ys) z (has-put x ys z (inl in′))) (has-cases y ys z at))
+      (λ e. has-there y (put rank x ys) z (has-put x ys z (inr e))) h)
       (λ _. ⊎-elim (λ at. has-there x (y ∷ ys) z at) (λ e. subst (Has (x ∷ (y ∷ ys))) (sym e) (has-here x (y ∷ ys))) h)
 
   -- ---- between lower and higher ranks
@@ -124,15 +124,17 @@ module _ {X : Type 0} (rank : X → ℕ) where
   put-high x (y ∷ xs) ys h =
       let more = put-high x xs ys h in
       elim (ltb (rank y) (rank x)) as (λ t. cond t (y ∷ put rank x (xs ++ ys)) (x ∷ (y ∷ (xs ++ ys))) ≡ cond t (y ∷ put rank x xs) (x ∷ (y ∷ xs)) ++ ys) [
-        true ↦ ap (λ l. y ∷ l) more
-      | false ↦ refl ]
+        | true ↦ ap (λ l. y ∷ l) more
+        | false ↦ refl
+      ]
 
   pub ascending-append : (m : ℕ) (xs ys : List X) → Ascending rank xs → Ascending rank ys → All (λ x. rank x < m) xs → All (λ y. m ≤ rank y) ys → Ascending rank (xs ++ ys)
   ascending-append m [] ys up vp low high = vp
   ascending-append m (x ∷ xs) ys up vp low high =
-      let below = low .0 in
-      (all-append (λ y. rank x < rank y) xs ys (up .0) (all-weaker (λ y. m ≤ rank y) (λ y. rank x < rank y) (λ y le. omega arith) ys high),
-      ascending-append m xs ys (up .1) vp (low .1) high)
+      let below = low .0 in (
+        all-append (λ y. rank x < rank y) xs ys (up .0) (all-weaker (λ y. m ≤ rank y) (λ y. rank x < rank y) (λ y le. omega arith) ys high),
+        ascending-append m xs ys (up .1) vp (low .1) high,
+      )
 
   pub ascending-at : (xs : List X) (i j : ℕ) (d : X) → Ascending rank xs → i < j → j < length xs → rank (getD xs i d) < rank (getD xs j d)
   ascending-at [] i j d up lt within = absurd (omega arith)
@@ -143,7 +145,7 @@ module _ {X : Type 0} (rank : X → ℕ) where
 
   -- a list falls in one way into ranks below m and others
   pub parted : (m : ℕ) (xs ys us vs : List X) → All (λ x. rank x < m) xs → All (λ x. rank x < m) us → All (λ y. m ≤ rank y) ys → All (λ y. m ≤ rank y) vs
-    → xs ++ ys ≡ us ++ vs → (xs ≡ us) × (ys ≡ vs)
+      → xs ++ ys ≡ us ++ vs → (xs ≡ us) × (ys ≡ vs)
   parted m [] ys [] vs a b c d e = (refl, e)
   parted m [] [] (u ∷ us) vs a b c d e = absurd (no-cons _ _ (sym e))
   parted m [] (y ∷ ys) (u ∷ us) vs a b c d e = let lt = b .0 in let le = c .0 in let same = ap rank (head-same _ _ _ _ e) in absurd (omega arith)
@@ -200,11 +202,11 @@ module _ {X : Type 0} (rank : X → ℕ) where
   same-members (x ∷ xs) [] up vp to from = absurd (has-none x (to x (has-here x xs)))
   same-members (x ∷ xs) (y ∷ ys) up vp to from =
       let e : x ≡ y =
-          ⊎-elim sym (λ lt. ⊎-elim (λ e. e) (λ gt. absurd (omega arith)) (behind y x xs up (from y (has-here y ys))))
-          (behind x y ys vp (to x (has-here x xs))) in
+      ⊎-elim sym (λ lt. ⊎-elim (λ e. e) (λ gt. absurd (omega arith)) (behind y x xs up (from y (has-here y ys))))
+      (behind x y ys vp (to x (has-here x xs))) in
       let more = same-members xs ys (up .1) (vp .1)
-          (λ z at. inner x y z xs ys up e at (to z (has-there x xs z at)))
-          (λ z at. inner y x z ys xs vp (sym e) at (from z (has-there y ys z at))) in
+      (λ z at. inner x y z xs ys up e at (to z (has-there x xs z at)))
+      (λ z at. inner y x z ys xs vp (sym e) at (from z (has-there y ys z at))) in
       λ i. e i ∷ more i
 
 -- ---- lists of one type as lists of another
@@ -218,17 +220,18 @@ module _ {X Y : Type 0} (f : Y → X) (rank : X → ℕ) (low : Y → ℕ) (base
       let more = put-map x ys in
       ⊎-elim
       (λ lt. cond-true (ltb (rank (f y)) (rank (f x))) (f y ∷ put rank (f x) (map f ys)) (f x ∷ (f y ∷ map f ys)) (lt-ltb (rank (f y)) (rank (f x)) (omega arith))
-          ∙ ap (λ l. f y ∷ l) more ∙ sym (ap (map f) (cond-true (ltb (low y) (low x)) (y ∷ put low x ys) (x ∷ (y ∷ ys)) (lt-ltb (low y) (low x) lt))))
+      ∙ ap (λ l. f y ∷ l) more ∙ sym (ap (map f) (cond-true (ltb (low y) (low x)) (y ∷ put low x ys) (x ∷ (y ∷ ys)) (lt-ltb (low y) (low x) lt))))
       (λ le. cond-false (ltb (rank (f y)) (rank (f x))) (f y ∷ put rank (f x) (map f ys)) (f x ∷ (f y ∷ map f ys)) (le-ltb (rank (f y)) (rank (f x)) (omega arith))
-          ∙ sym (ap (map f) (cond-false (ltb (low y) (low x)) (y ∷ put low x ys) (x ∷ (y ∷ ys)) (le-ltb (low y) (low x) le))))
+      ∙ sym (ap (map f) (cond-false (ltb (low y) (low x)) (y ∷ put low x ys) (x ∷ (y ∷ ys)) (le-ltb (low y) (low x) le))))
       (cases-lt (low y) (low x))
 
   pub ascending-map : (ys : List Y) → Ascending low ys → Ascending rank (map f ys)
   ascending-map [] up = tt
   ascending-map (y ∷ ys) up =
-      let a = is y in
-      (all-map (λ x. rank (f y) < rank x) f ys (all-weaker (λ z. low y < low z) (λ z. rank (f y) < rank (f z)) (λ z lt. let b = is z in omega arith) ys (up .0)),
-      ascending-map ys (up .1))
+      let a = is y in (
+        all-map (λ x. rank (f y) < rank x) f ys (all-weaker (λ z. low y < low z) (λ z. rank (f y) < rank (f z)) (λ z lt. let b = is z in omega arith) ys (up .0)),
+        ascending-map ys (up .1),
+      )
 
   pub among-map : (x : Y) (ys : List Y) → among rank (rank (f x)) (map f ys) ≡ among low (low x) ys
   among-map x [] = refl
@@ -236,6 +239,6 @@ module _ {X Y : Type 0} (f : Y → X) (rank : X → ℕ) (low : Y → ℕ) (base
       let a = is x in
       let b = is y in
       let same : eqb (rank (f y)) (rank (f x)) ≡ eqb (low y) (low x) =
-          ⊎-elim (λ e. eq-eqb (rank (f y)) (rank (f x)) (omega arith) ∙ sym (eq-eqb (low y) (low x) e)) (λ ne. ne-eqb (rank (f y)) (rank (f x)) (λ e. ne (omega arith)) ∙ sym (ne-eqb (low y) (low x) ne)) (cases-eq (low y) (low x)) in
+      ⊎-elim (λ e. eq-eqb (rank (f y)) (rank (f x)) (omega arith) ∙ sym (eq-eqb (low y) (low x) e)) (λ ne. ne-eqb (rank (f y)) (rank (f x)) (λ e. ne (omega arith)) ∙ sym (ne-eqb (low y) (low x) ne)) (cases-eq (low y) (low x)) in
       let more = among-map x ys in
       λ i. same i || more i

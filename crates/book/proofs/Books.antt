@@ -117,7 +117,7 @@ same-joined b c (j ∷ js) h = λ i. h .0 i ++ same-joined b c js (h .1) i
 
 -- a line that is put among its kind, with no other change, is put among all lines
 pub put-lines : (b c : Book) (l : Line) → Within l → All (λ j. lines-of c j ≡ lines-of b j) (before (kind l)) → All (λ j. lines-of c j ≡ lines-of b j) (behind (kind l))
-  → lines-of c (kind l) ≡ put rank l (lines-of b (kind l)) → lines c ≡ put rank l (lines b)
+    → lines-of c (kind l) ≡ put rank l (lines-of b (kind l)) → lines c ≡ put rank l (lines b)
 unfolding lines
 put-lines b c l w front back mid =
     framed (lines-of c) (kind l)

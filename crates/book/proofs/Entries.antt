@@ -30,11 +30,14 @@ use Rattle.book.proofs.Books.{kept-is, clash-kind, many-lines, rules-seated, e
 
 -- a table with x put among its rows
 pub tidy-put : {X : Type 0} (low : X → ℕ) (blank : X) (size : ℕ) (rows after : List X) (n : ℕ) (x : X) → Tidy low blank size rows n → n < size → among low (low x) (take n rows) ≡ false
-  → length after ≡ length rows → take (n + 1) after ≡ put low x (take n rows) → drop (n + 1) after ≡ drop (n + 1) rows → Tidy low blank size after (n + 1)
+    → length after ≡ length rows → take (n + 1) after ≡ put low x (take n rows) → drop (n + 1) after ≡ drop (n + 1) rows → Tidy low blank size after (n + 1)
 tidy-put low blank size rows after n x tidy room new long used rest =
-    let e : size - n - 1 ≡ size - (n + 1) = omega arith in
-    (long ∙ tidy .0, omega arith, ∣ subst (Ascending low) (sym used) (put-ascending low x (take n rows) (ascending-told low (take n rows) (tidy .2)) new) ∣₁,
-    rest ∙ sym (drop-drop 1 n rows) ∙ ap (drop 1) (tidy .3) ∙ drop-replicate 1 (size - n) blank ∙ ap (λ m. replicate m blank) e)
+    let e : size - n - 1 ≡ size - (n + 1) = omega arith in (
+      long ∙ tidy .0,
+      omega arith,
+      ∣ subst (Ascending low) (sym used) (put-ascending low x (take n rows) (ascending-told low (take n rows) (tidy .2)) new) ∣₁,
+      rest ∙ sym (drop-drop 1 n rows) ∙ ap (drop 1) (tidy .3) ∙ drop-replicate 1 (size - n) blank ∙ ap (λ m. replicate m blank) e,
+    )
 
 -- the rows of a table as lines of their kind
 module _ {X : Type 0} (f : X → Line) (low : X → ℕ) (k : Kind) (is : (x : X) → rank (f x) ≡ start k + low x) (of : (x : X) → kind (f x) ≡ k) (b : Book) (rows : List X) (n : ℕ) (own : lines-of b k ≡ map f (take n rows)) where
@@ -62,7 +65,7 @@ all-placed low P rows after n x p h used rest =
 
 -- a place that goes by number
 seat-clash : {X : Type 0} (at : ℕ → X → List Line) (k : Kind) (b : Book) (xs : List X) (d : X) → lines-of b k ≡ by-number at 0 xs → Seated at k 0 xs
-  → (l : Line) (i : ℕ) → kind l ≡ k → Within l → rank l ≡ start k + i → i < length xs → clashes (lines b) l ≡ filled (at i (getD xs i d))
+    → (l : Line) (i : ℕ) → kind l ≡ k → Within l → rank l ≡ start k + i → i < length xs → clashes (lines b) l ≡ filled (at i (getD xs i d))
 seat-clash at k b xs d own seated l i of w is lt =
     clash-kind b l w ∙ ap (λ j. among rank (rank l) (lines-of b j)) of ∙ (λ j. among rank (is j) (own j)) ∙ seats-among at k 0 xs i i d (omega arith) lt seated
 
@@ -71,14 +74,14 @@ unfilled [] e = refl
 unfilled (l ∷ ls) e = absurd (true≢false e)
 
 seat-put : {X : Type 0} (at : ℕ → X → List Line) (k : Kind) (b : Book) (xs : List X) (d : X) → lines-of b k ≡ by-number at 0 xs → Seated at k 0 xs
-  → (l : Line) (i : ℕ) → kind l ≡ k → Within l → rank l ≡ start k + i → i < length xs → clashes (lines b) l ≡ false
-  → (y : X) → at i y ≡ l ∷ [] → by-number at 0 (set xs i y) ≡ put rank l (lines-of b k)
+    → (l : Line) (i : ℕ) → kind l ≡ k → Within l → rank l ≡ start k + i → i < length xs → clashes (lines b) l ≡ false
+    → (y : X) → at i y ≡ l ∷ [] → by-number at 0 (set xs i y) ≡ put rank l (lines-of b k)
 seat-put at k b xs d own seated l i of w is lt new y one =
     seats-put at k 0 xs i i d y l (omega arith) lt seated (unfilled (at i (getD xs i d)) (sym (seat-clash at k b xs d own seated l i of w is lt) ∙ new)) one is
     ∙ ap (put rank l) (sym own)
 
 pub rule-put : (b : Book) (l : Line) (i : ℕ) → kind l ≡ rules → Within l → rank l ≡ i → i < 64 → clashes (lines b) l ≡ false
-  → (r : Rule) → rule-line i r ≡ l ∷ [] → by-number rule-line 0 (set (b .rules) i r) ≡ put rank l (lines-of b rules)
+    → (r : Rule) → rule-line i r ≡ l ∷ [] → by-number rule-line 0 (set (b .rules) i r) ≡ put rank l (lines-of b rules)
 rule-put b l i of w is lt new r one = let long = b .numbered .0 in seat-put rule-line rules b (b .rules) Free refl (rules-seated b) l i of w (omega arith) (omega arith) new r one
 
 pub end-put : (b : Book) (t : UpTo 63) (i : ℕ) → i ≡ t .value → clashes (lines b) (line.End t) ≡ false → by-number end-line 0 (set (b .ends) i true) ≡ put rank (line.End t) (lines-of b ends)

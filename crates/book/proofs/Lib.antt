@@ -6,3 +6,4 @@ pub mod Turns
 pub mod Entries
 pub mod Barred
 pub mod Joining
+pub mod Standing

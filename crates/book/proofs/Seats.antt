@@ -82,7 +82,7 @@ module _ {X : Type 0} (at : ℕ → X → List Line) (k : Kind) where
 
   -- a line put at the place with number j, which is free
   pub seats-put : (n : ℕ) (xs : List X) (i j : ℕ) (d y : X) (l : Line) → n + i ≡ j → i < length xs → Seated n xs → at j (getD xs i d) ≡ [] → at j y ≡ l ∷ [] → rank l ≡ start k + j
-    → by-number at n (set xs i y) ≡ put rank l (by-number at n xs)
+      → by-number at n (set xs i y) ≡ put rank l (by-number at n xs)
   seats-put n [] i j d y l e lt h free new is = absurd (omega arith)
   seats-put n (x ∷ xs) zero j d y l e lt h free new is =
       let same : j ≡ n = omega arith in
@@ -116,7 +116,7 @@ module _ {X : Type 0} (at : ℕ → X → List Line) (k : Kind) where
   seats-same one n (x ∷ xs) [] long h g e = absurd (omega arith)
   seats-same one n (x ∷ xs) (y ∷ ys) long h g e =
       let both = parted rank (start k + (n + 1)) (at n x) (by-number at (n + 1) xs) (at n y) (by-number at (n + 1) ys)
-          (seat-below n (n + 1) x (omega arith) (h .0)) (seat-below n (n + 1) y (omega arith) (g .0)) (seats-low (n + 1) xs (h .1)) (seats-low (n + 1) ys (g .1)) e in
+      (seat-below n (n + 1) x (omega arith) (h .0)) (seat-below n (n + 1) y (omega arith) (g .0)) (seats-low (n + 1) xs (h .1)) (seats-low (n + 1) ys (g .1)) e in
       let first = one n x y (both .0) in
       let more = seats-same one (n + 1) xs ys (omega arith) (h .1) (g .1) (both .1) in
       λ i. first i ∷ more i

@@ -40,8 +40,9 @@ put-at rank x [] = refl
 put-at rank x (y ∷ ys) =
     let more = put-at rank x ys in
     elim (ltb (rank y) (rank x)) as (λ t. cond t (y ∷ put rank x ys) (x ∷ (y ∷ ys)) ≡ take (cond t (suc (lower rank (rank x) ys)) 0) (y ∷ ys) ++ x ∷ drop (cond t (suc (lower rank (rank x) ys)) 0) (y ∷ ys)) [
-      true ↦ ap (λ l. y ∷ l) more
-    | false ↦ refl ]
+      | true ↦ ap (λ l. y ∷ l) more
+      | false ↦ refl
+    ]
 
 -- x written behind the first n rows, and brought back to its place p
 module _ {X : Type 0} (rank : X → ℕ) (rows : List X) (n p : ℕ) (x : X) (within : n < length rows) (at : p ≡ lower rank (rank x) (take n rows)) where

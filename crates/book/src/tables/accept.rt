@@ -38,13 +38,21 @@ fn zero<const MAX: u16>() -> UpTo<MAX>
 fn blank_watch() -> WatchLine
     ensures { λ r. ⌜ r ≡ blank-watch ⌝ }
 {
-    WatchLine { mode: zero(), wagon: zero(), node: zero() }
+    WatchLine {
+        mode: zero(),
+        wagon: zero(),
+        node: zero(),
+    }
 }
 
 fn blank_link() -> LinkLine
     ensures { λ r. ⌜ r ≡ blank-link ⌝ }
 {
-    LinkLine { node: zero(), wagon: zero(), to: zero() }
+    LinkLine {
+        node: zero(),
+        wagon: zero(),
+        to: zero(),
+    }
 }
 
 impl Book {

@@ -42,17 +42,19 @@ pub ghost-self : need.ghost-self
 ghost-self c =
     let b = c .args .self .now in
     let i = c .get .result in
-    let r = rule.Order (c .in-Order .o) in
-    ((length-set (b .rules) i r ∙ b .numbered .0, ∣ along-set At-number 0 (b .rules) i i r (omega arith) (sym (c .get .ensures)) (at-numbers b) ∣₁),
-    (b .phases, (b .opened, (b .watched, (b .linked, (b .marked, tt))))))
+    let r = rule.Order (c .in-Order .o) in (
+      (length-set (b .rules) i r ∙ b .numbered .0, ∣ along-set At-number 0 (b .rules) i i r (omega arith) (sym (c .get .ensures)) (at-numbers b) ∣₁),
+      (b .phases, (b .opened, (b .watched, (b .linked, (b .marked, tt))))),
+    )
 
 pub ghost-self-in-Notice : need.ghost-self-in-Notice
 ghost-self-in-Notice c =
     let b = c .args .self .now in
     let i = c .get-in-Notice .result in
-    let r = rule.Notice (c .in-Notice .n) in
-    ((length-set (b .rules) i r ∙ b .numbered .0, ∣ along-set At-number 0 (b .rules) i i r (omega arith) (sym (c .get-in-Notice .ensures)) (at-numbers b) ∣₁),
-    (b .phases, (b .opened, (b .watched, (b .linked, (b .marked, tt))))))
+    let r = rule.Notice (c .in-Notice .n) in (
+      (length-set (b .rules) i r ∙ b .numbered .0, ∣ along-set At-number 0 (b .rules) i i r (omega arith) (sym (c .get-in-Notice .ensures)) (at-numbers b) ∣₁),
+      (b .phases, (b .opened, (b .watched, (b .linked, (b .marked, tt))))),
+    )
 
 pub ghost-self-in-Open : need.ghost-self-in-Open
 ghost-self-in-Open c =

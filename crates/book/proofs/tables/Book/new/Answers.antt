@@ -8,9 +8,19 @@ use Rattle.book.proofs.Seats.{along-same}
 use Rattle.book.proofs.tables.Book.new.Needs as need
 
 pub ghost-result : need.ghost-result
-ghost-result c =
-    ((refl, ∣ along-same At-number Free (λ _. tt) 64 0 ∣₁), (∣ omega arith ∣₁, ((refl, omega arith, ∣ tt ∣₁, refl), ((refl, omega arith, ∣ tt ∣₁, ap (replicate 128) (c .blank-watch .ensures)),
-    ((refl, omega arith, ∣ tt ∣₁, ap (replicate 128) (c .blank-link .ensures)), ((refl, refl), tt))))))
+ghost-result c = (
+  (refl, ∣ along-same At-number Free (λ _. tt) 64 0 ∣₁),
+  (
+    ∣ omega arith ∣₁,
+    (
+      (refl, omega arith, ∣ tt ∣₁, refl),
+      (
+        (refl, omega arith, ∣ tt ∣₁, ap (replicate 128) (c .blank-watch .ensures)),
+        ((refl, omega arith, ∣ tt ∣₁, ap (replicate 128) (c .blank-link .ensures)), ((refl, refl), tt)),
+      ),
+    ),
+  ),
+)
 
 pub returns : need.returns
 unfolding lines
