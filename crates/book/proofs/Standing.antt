@@ -9,7 +9,6 @@ use lib.ListN.{length, getD, take}
 use Rattle.std.specs.shelf.Lists.{All, Has, joined}
 use Rattle.std.specs.declared.option.Option.the-variants.{Some}
 use Rattle.std.proofs.shelf.Elements.{all-has, has-append-left, has-append-right}
-use Rattle.std.proofs.shelf.Tests.{true≢false}
 use Rattle.grade.specs.declared.upto.UpTo.{UpTo}
 use Rattle.grade.proofs.Values.{same-upto}
 use Rattle.text.specs.declared.line.Line.{Line}
@@ -27,7 +26,7 @@ use Rattle.book.specs.Ranks.{rules, kind, start, stop, rank}
 use Rattle.book.specs.Tables.{Along, At-number, rule-line, end-line, bare-line, by-number}
 use Rattle.book.specs.Lines.{lines-of, lines}
 use Rattle.book.specs.Words.{number}
-use Rattle.book.proofs.Ascent.{head-same, has-here, has-there, has-none, has-cases}
+use Rattle.book.proofs.Ascent.{head-same, no-cons, has-here, has-there, has-none, has-cases}
 use Rattle.book.proofs.ByKind.{before, behind, rank-low, rank-high, framed, front-low, back-high}
 use Rattle.book.proofs.Books.{kept-is, at-numbers, of-kind, within-lines}
 
@@ -172,6 +171,16 @@ module _ (b : Book) where
         λ e. kind-stands b (line.Notice n) (there-rule (line.Notice n) (omega arith) (has-here (line.Notice n) []) e),
       )
 
+  placed : (k : ℕ) (r : Rule) → k < 64 → getD (b .rules) k Free ≡ r → At-number k r
+  placed k r lt e = let long = b .numbered .0 in subst (At-number k) e (along-getD At-number 0 (b .rules) k k Free (omega arith) (omega arith) (at-numbers b))
+
+  -- what is found at a place stands, and has the place's number
+  pub order-at : (k : ℕ) (o : OrderLine) → k < 64 → getD (b .rules) k Free ≡ Order o → Has (lines b) (line.Order o) × (o .number .value ≡ k)
+  order-at k o lt e = let is = placed k (Order o) lt e in (order-stands o .1 (subst (λ m. getD (b .rules) m Free ≡ Order o) (sym is) e), is)
+
+  pub notice-at : (k : ℕ) (n : NoticeLine) → k < 64 → getD (b .rules) k Free ≡ Notice n → Has (lines b) (line.Notice n) × (n .number .value ≡ k)
+  notice-at k n lt e = let is = placed k (Notice n) lt e in (notice-stands n .1 (subst (λ m. getD (b .rules) m Free ≡ Notice n) (sym is) e), is)
+
   -- what stands under a number, and that it is the line's own
   numbered-rule : (l : Line) (n : ℕ) → number l ≡ Some n → Has (lines b) l → (getD (b .rules) n Free ≡ line-rule l) × (rule-line n (line-rule l) ≡ l ∷ [])
   unfolding line-rule
@@ -182,6 +191,10 @@ module _ (b : Book) where
   numbered-rule (line.Link k) n e h = let z : _≡_ {A = ℕ} 0 1 = cc in absurd (omega arith)
   numbered-rule (line.End t) n e h = let z : _≡_ {A = ℕ} 0 1 = cc in absurd (omega arith)
   numbered-rule (line.Bare p) n e h = let z : _≡_ {A = ℕ} 0 1 = cc in absurd (omega arith)
+
+  -- under a number that is free no line stands
+  pub free-number : (n : ℕ) → getD (b .rules) n Free ≡ Free → (l : Line) → number l ≡ Some n → Has (lines b) l → ⊥
+  free-number n free l is h = let a = numbered-rule l n is h in no-cons l [] (sym (a .1) ∙ ap (rule-line n) (sym (a .0) ∙ free))
 
   -- a number stands once
   pub numbers-once : (k l : Line) (n : ℕ) → Has (lines b) k → Has (lines b) l → number k ≡ Some n → number l ≡ Some n → k ≡ l

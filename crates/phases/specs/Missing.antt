@@ -2,7 +2,7 @@
 use mathlib.Core.Path.{_≡_}
 use mathlib.Core.Logic.{_⊎_}
 use mathlib.Core.List.{List}
-use Prim.Native.Nat.{ℕ, _≤_}
+use Prim.Native.Nat.{ℕ, _<_, _≤_}
 use lib.ListN.{getD}
 use Rattle.std.specs.declared.option.Option.the-variants.{Some}
 use Rattle.text.specs.declared.line.NoticeLine.{NoticeLine}
@@ -25,11 +25,11 @@ Mentions (Bare p) m = ⊥
 
 -- a notice or an open line that stands names m
 abbrev pub Names : List Line → ℕ → Type 0
-Names ls m = (l : Line) × (Stands ls l × Mentions l m)
+Names ls m = (l : Line) × Stands ls l × Mentions l m
 
 -- an order or a notice with number m stands
 abbrev pub Accepted : List Line → ℕ → Type 0
-Accepted ls m = (l : Line) × (Stands ls l × (rule-number l ≡ Some m))
+Accepted ls m = (l : Line) × Stands ls l × (rule-number l ≡ Some m)
 
 -- m is named and not accepted
 abbrev pub Missing : List Line → ℕ → Type 0
@@ -53,4 +53,12 @@ pub record Lowered (ls : List Line) (P : ℕ → Type 0) (least r : ℕ) : Type 
 
 -- the rule at this place is a notice that names m
 abbrev pub RuleMentions : Book → ℕ → ℕ → Type 0
-RuleMentions b place m = (n : NoticeLine) × ((getD (b .rules) place rule.Free ≡ rule.Notice n) × Mentions (Notice n) m)
+RuleMentions b place m = (n : NoticeLine) × (getD (b .rules) place rule.Free ≡ rule.Notice n) × Mentions (Notice n) m
+
+-- one of the rules at the first places names m
+abbrev pub RulesMention : Book → ℕ → ℕ → Type 0
+RulesMention b places m = (k : ℕ) × (k < places) × RuleMentions b k m
+
+-- one of the first open lines does
+abbrev pub OpensMention : Book → ℕ → ℕ → Type 0
+OpensMention b count m = (k : ℕ) × (k < count) × InForce (getD (b .opens) k 0) m

@@ -3,7 +3,7 @@ use mathlib.Core.Path.{_≡_}
 use mathlib.Core.Logic.{_↔_}
 use mathlib.Core.Bool.{Bool, true, false}
 use mathlib.Core.List.{List}
-use Prim.Native.Nat.{ℕ}
+use Prim.Native.Nat.{ℕ, _<_}
 use lib.ListN.{length, getD}
 use Rattle.grade.specs.declared.upto.UpTo.{UpTo}
 use Rattle.text.specs.declared.line.WatchLine.{WatchLine}
@@ -39,8 +39,26 @@ pub record Links (ls : List Line) (P : ℕ → Type 0) (wagon t : ℕ) : Type 0 
 
 -- one of these nodes has an end line
 abbrev pub EndsIn : List Line → (ℕ → Type 0) → Type 0
-EndsIn ls P = (t : UpTo 63) × (Stands ls (End t) × P (t .value))
+EndsIn ls P = (t : UpTo 63) × Stands ls (End t) × P (t .value)
 
 -- link lines lead from one of these nodes by the wagons to an end
 abbrev pub LeadsFrom : List Line → (ℕ → Type 0) → List ℕ → Type 0
-LeadsFrom ls P w = (t : ℕ) × (P t × Leads ls t w)
+LeadsFrom ls P w = (t : ℕ) × P t × Leads ls t w
+
+-- ---- on the way there
+
+-- one of the first rows fits and goes to the node t
+abbrev pub ByRows : {X : Type 0} → List X → X → (X → Type 0) → (X → ℕ) → ℕ → ℕ → Type 0
+ByRows rows d fits to count t = (k : ℕ) × (k < count) × fits (getD rows k d) × (to (getD rows k d) ≡ t)
+
+abbrev pub watch-fits : ℕ → ℕ → WatchLine → Type 0
+watch-fits mode wagon v = (v .mode .value ≡ mode) × (v .wagon .value ≡ wagon)
+
+abbrev pub watch-to : WatchLine → ℕ
+watch-to v = v .node .value
+
+abbrev pub link-fits : (ℕ → Type 0) → ℕ → LinkLine → Type 0
+link-fits P wagon k = P (k .node .value) × (k .wagon .value ≡ wagon)
+
+abbrev pub link-to : LinkLine → ℕ
+link-to k = k .to .value
