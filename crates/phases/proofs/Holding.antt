@@ -3,10 +3,14 @@ use mathlib.Core.Path.{_≡_, refl, sym, ap, subst, _∙_}
 use mathlib.Core.Logic.{_⊎_, inl, inr, ⊎-elim, _↔_}
 use mathlib.Core.Bool.{Bool, true, false}
 use mathlib.Core.List.{List, [], _∷_}
-use Prim.Native.Nat.{ℕ, _+_, _<_, _≤_}
+use Prim.Native.Nat.{ℕ, _-_, _<_, _≤_}
 use native.Mathlib.Omega.{arith}
-use lib.ListN.{length, getD, take}
-use Rattle.std.specs.Orderings.{Decides}
+use lib.ListN.{length, getD, take, drop}
+use Rattle.std.specs.Options.{Cases, isSome}
+use Rattle.std.specs.declared.option.Option.{Option}
+use Rattle.std.specs.declared.option.Option.the-variants.{Some, None}
+use Rattle.std.proofs.shelf.Lists.{take-all}
+use Rattle.std.proofs.shelf.Tests.{false≢true}
 use Rattle.grade.specs.declared.upto.UpTo.{UpTo}
 use Rattle.text.specs.declared.line.WatchLine.{WatchLine}
 use Rattle.text.specs.declared.line.LinkLine.{LinkLine}
@@ -19,6 +23,8 @@ use Rattle.book.specs.declared.tables.Book.{Book}
 use Rattle.book.specs.Tables.{blank-watch, blank-link}
 use Rattle.book.specs.Lines.{lines}
 use Rattle.book.proofs.Standing.{watch-stands, link-stands, end-stands, bare-stands}
+use Rattle.phases.specs.declared.table.Phases.{Phases}
+use Rattle.phases.specs.Table.{Holds, FirstAt}
 use Rattle.phases.specs.Nodes.{Marked, Marks, Enters, Links, EndsIn, LeadsFrom, ByRows, watch-fits, watch-to, link-fits, link-to}
 use Rattle.phases.specs.Held.{Takes, Taken}
 use Rattle.phases.proofs.Rows.{row-has, has-row}
@@ -118,3 +124,13 @@ module _ (ls : List Line) where
   pub taken-watched : (mode F : ℕ) (w : List ℕ) → Opened ls F → Takes ls mode w → Watched ls (at mode F w)
   taken-watched mode F w o (Takes.bare s) = Watched.bare s o
   taken-watched mode F w o (Takes.read s l) = Watched.read s o l
+
+-- ---- the code's terms
+
+pub lane-parts : (w : List ℕ) → 1 ≤ length w → w ≡ getD w 0 0 ∷ take (length w - 1) (drop 1 w)
+lane-parts [] le = absurd (omega arith)
+lane-parts (k ∷ w) le = ap (λ r. k ∷ r) (sym (take-all (length (k ∷ w) - 1) w (omega arith)))
+
+pub index-holds : (p : Phases) (F : ℕ) (o : Option ℕ) → isSome o ≡ true → Cases o (Holds p F → ⊥) (FirstAt p F) → Holds p F
+index-holds p F None some h = absurd (false≢true some)
+index-holds p F (Some i) some h = (i, h .within, h .here)

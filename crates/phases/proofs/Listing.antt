@@ -4,8 +4,8 @@ use mathlib.Core.Logic.{_⊎_, inl, inr, ⊎-elim}
 use mathlib.Core.List.{List}
 use Prim.Native.Nat.{ℕ, _+_, _<_, _≤_}
 use native.Mathlib.Omega.{arith}
-use lib.ListN.{length, getD, set}
-use Rattle.std.proofs.shelf.Lists.{getD-set-same, getD-set-other}
+use lib.ListN.{length, getD, set, replicate}
+use Rattle.std.proofs.shelf.Lists.{getD-set-same, getD-set-other, getD-replicate, getD-past, length-replicate}
 use Rattle.std.proofs.shelf.Tests.{cases-lt}
 use Rattle.text.specs.declared.line.NoticeLine.{NoticeLine}
 use Rattle.text.specs.declared.line.Line.{Line}
@@ -129,6 +129,10 @@ module _ (ls : List Line) where
   pub found-none : (p : Phases) → p .count ≡ 0 → Blank p → Found ls p
   found-none p none blank = record { different = record { apart = λ k l lt. absurd (omega arith); each = λ k lt. absurd (omega arith) }; blank = blank }
 
+-- nothing stands in a blank table
+pub blank-none : (k : ℕ) → 0 ≤ k → _≡_ {A = ℕ} (getD (replicate 32 0) k 0) 0
+blank-none k le = let long = length-replicate {A = ℕ} 32 0 in ⊎-elim (λ lt. getD-replicate 32 k 0 0 lt) (λ ge. getD-past (replicate 32 0) k 0 (omega arith)) (cases-lt k 32)
+
 -- ---- by the tables of a book
 
 module _ (b : Book) where
@@ -153,3 +157,14 @@ module _ (b : Book) where
       (λ less. subst (Followed (lines b) q) (sym (g .same k (omega arith))) (λ n s allows. holds-more p q (after n (phase-at p k)) g (closed k less n s allows)))
       (λ le. let e : k ≡ done = omega arith in subst (Followed (lines b) q) (sym (ap (phase-at q) e ∙ g .same done within)) now)
       (cases-lt k done)
+
+  -- where the rule at a place is a notice, the phase after it by that notice was added
+  pub went-rule : (p q : Phases) (F place : ℕ) (n : NoticeLine) (G : ℕ) → place < 64 → getD (b .rules) place rule.Free ≡ rule.Notice n → G ≡ after n F
+    → Found (lines b) p → Opened (lines b) G → Added p G q → Went (lines b) p q (RuleFollowed b q F place)
+  went-rule p q F place n G lt e is found yet added =
+      let went = added-went (lines b) p q G found yet added in
+      record {
+        found = went .found;
+        grown = went .grown;
+        reached = λ m f allows. let same : n ≡ m = cc in subst (Holds q) (is ∙ ap (λ o. after o F) same) (went .reached);
+      }

@@ -158,9 +158,13 @@ module _ (b : Book) where
           (λ own. absurd (none (let s = notice-at b place (h .0) lt (h .1) in (Notice (h .0), s .0, ap Some own))))
           (λ p. subst (λ o. (o .loses .value ≡ m) ⊎ (o .gains .value ≡ m)) same p) (h .2))
 
-  module _ (r : ℕ) (all : Lowered (lines b) AllMention 64 r) where
+  -- after the loops over the rules and over all the open lines
+  module _ (r i : ℕ) (le : i ≤ b .opening) (ge : b .opening ≤ i) (all : Lowered (lines b) (λ m. RulesMention b 64 m ⊎ OpensMention b i m) 64 r) where
     whole : Lowered (lines b) (Names (lines b)) 64 r
-    whole = lowered-like (lines b) AllMention (Names (lines b)) 64 r mention-names (λ m p none. names-mention m p) all
+    whole =
+        let e : i ≡ b .opening = omega arith in
+        lowered-like (lines b) AllMention (Names (lines b)) 64 r mention-names (λ m p none. names-mention m p)
+        (subst (λ k. Lowered (lines b) (λ m. RulesMention b 64 m ⊎ OpensMention b k m) 64 r) e all)
 
     pub least-found : r < 64 → LeastMissing (lines b) r
     least-found lt = record {
