@@ -53,7 +53,13 @@ fn takes_notice(notice: &NoticeLine, mode: u8, lane: &[u8]) -> bool
     }
 }
 
-fn carry_out_order(order: &OrderLine, mode: u8, phase: u64, buffer: &mut [u8], len: usize) -> Result<Moved, MoveRefusal>
+fn carry_out_order(
+    order: &OrderLine,
+    mode: u8,
+    phase: u64,
+    buffer: &mut [u8],
+    len: usize,
+) -> Result<Moved, MoveRefusal>
     requires { ⌜ len ≤ length (now buffer) ⌝ }
     ensures { λ r. ⌜ told r (now (buffer .exit)) ≡ rule-says (rule.Order (now (order .entry))) (at mode phase (take len (now (buffer .entry)))) (now (buffer .entry)) ⌝ }
 {
@@ -73,7 +79,13 @@ fn carry_out_order(order: &OrderLine, mode: u8, phase: u64, buffer: &mut [u8], l
     })
 }
 
-fn carry_out_notice(notice: &NoticeLine, mode: u8, phase: u64, buffer: &mut [u8], len: usize) -> Result<Moved, MoveRefusal>
+fn carry_out_notice(
+    notice: &NoticeLine,
+    mode: u8,
+    phase: u64,
+    buffer: &mut [u8],
+    len: usize,
+) -> Result<Moved, MoveRefusal>
     requires { ⌜ len ≤ length (now buffer) ⌝ }
     ensures { λ r. ⌜ told r (now (buffer .exit)) ≡ rule-says (rule.Notice (now (notice .entry))) (at mode phase (take len (now (buffer .entry)))) (now (buffer .entry)) ⌝ }
 {
@@ -100,7 +112,14 @@ fn rule_number(rule: &Rule) -> u16
 }
 
 // Carries out the rule under its number.
-fn carry_out(rule: &Rule, mode: u8, phase: u64, buffer: &mut [u8], len: usize, number: u8) -> Result<Moved, MoveRefusal>
+fn carry_out(
+    rule: &Rule,
+    mode: u8,
+    phase: u64,
+    buffer: &mut [u8],
+    len: usize,
+    number: u8,
+) -> Result<Moved, MoveRefusal>
     ensures { λ r. ⌜ told r (now (buffer .exit)) ≡ text-says (Ok (now (rule .entry))) (handed mode phase (now (buffer .entry)) len number) ⌝ }
 {
     if !are_position(mode, buffer, len) {
@@ -117,7 +136,14 @@ fn carry_out(rule: &Rule, mode: u8, phase: u64, buffer: &mut [u8], len: usize, n
 
 // Makes the move that the line allows under this number, from the mode, the phase and the lane in the first `len` bytes of the
 // buffer. The first byte is the top. A refusal leaves the buffer as it was, and a move the bytes behind the new lane.
-pub fn move_lane(line: &[u8], mode: u8, phase: u64, buffer: &mut [u8], len: usize, number: u8) -> Result<Moved, MoveRefusal>
+pub fn move_lane(
+    line: &[u8],
+    mode: u8,
+    phase: u64,
+    buffer: &mut [u8],
+    len: usize,
+    number: u8,
+) -> Result<Moved, MoveRefusal>
     ensures value { λ r. ⌜ told r (now (buffer .exit)) ≡ move-says (now (line .entry)) (handed mode phase (now (buffer .entry)) len number) ⌝ }
     ensures right { λ r. ⌜ Right (now (line .entry)) (handed mode phase (now (buffer .entry)) len number) r (now (buffer .exit)) ⌝ }
     ensures rises { λ r. ⌜ ((e : MoveRefusal) → r ≡ Err e → refusal-number e ≡ 5 → ⊥) ⌝ }

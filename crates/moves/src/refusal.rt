@@ -45,7 +45,10 @@ impl MoveRefusal {
             MoveRefusal::Text(LineRefusal::TooLarge(place)) => *place,
             MoveRefusal::Text(LineRefusal::NotRising(place)) => *place,
             MoveRefusal::NotAccepted(number) => usize::from(*number),
-            MoveRefusal::NoPosition | MoveRefusal::NotInForce | MoveRefusal::Forbidden | MoveRefusal::NoRoom => 0,
+            MoveRefusal::NoPosition
+            | MoveRefusal::NotInForce
+            | MoveRefusal::Forbidden
+            | MoveRefusal::NoRoom => 0,
         }
     }
 }
