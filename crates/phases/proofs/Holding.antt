@@ -50,9 +50,9 @@ module _ (b : Book) where
         to = h .3;
       })
       (λ t h.
-          let (k, lt, is) = has-row (b .watches) (b .watching) blank-watch (h .line) watches-few (watch-stands b (h .line) .0 (h .stands)) in
-          let fit = subst (λ v. watch-fits mode wagon v × (watch-to v ≡ t)) (sym is) ((h .from, h .by), h .to) in
-          (k, lt, fit .0, fit .1))
+      let (k, lt, is) = has-row (b .watches) (b .watching) blank-watch (h .line) watches-few (watch-stands b (h .line) .0 (h .stands)) in
+      let fit = subst (λ v. watch-fits mode wagon v × (watch-to v ≡ t)) (sym is) ((h .from, h .by), h .to) in
+      (k, lt, fit .0, fit .1))
 
   pub marks-links : (s : List Bool) (P : ℕ → Type 0) (wagon : ℕ) → Marks s (ByRows (b .links) blank-link (link-fits P wagon) link-to (b .linking)) → Marks s (Links (lines b) P wagon)
   marks-links s P wagon =
@@ -65,9 +65,9 @@ module _ (b : Book) where
         to = h .3;
       })
       (λ t h.
-          let (k, lt, is) = has-row (b .links) (b .linking) blank-link (h .line) links-few (link-stands b (h .line) .0 (h .stands)) in
-          let fit = subst (λ l. link-fits P wagon l × (link-to l ≡ t)) (sym is) ((h .from, h .by), h .to) in
-          (k, lt, fit .0, fit .1))
+      let (k, lt, is) = has-row (b .links) (b .linking) blank-link (h .line) links-few (link-stands b (h .line) .0 (h .stands)) in
+      let fit = subst (λ l. link-fits P wagon l × (link-to l ≡ t)) (sym is) ((h .from, h .by), h .to) in
+      (k, lt, fit .0, fit .1))
 
   -- a node below 64 that is marked, and whose end line stands
   pub ends-in : (P : ℕ → Type 0) (t : ℕ) → t < 64 → P t → getD (b .ends) t false ≡ true → EndsIn (lines b) P

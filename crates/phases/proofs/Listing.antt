@@ -70,11 +70,11 @@ module _ (ls : List Line) where
       apart k l lt less same =
           ⊎-elim
           (λ a. ⊎-elim
-              (λ b. found .different .apart k l (a .0) (b .0) (sym (a .1) ∙ same ∙ b .1))
-              (λ b. absurd (push .new (k, a .0, sym (a .1) ∙ same ∙ b .1))) (cases l less))
+          (λ b. found .different .apart k l (a .0) (b .0) (sym (a .1) ∙ same ∙ b .1))
+          (λ b. absurd (push .new (k, a .0, sym (a .1) ∙ same ∙ b .1))) (cases l less))
           (λ a. ⊎-elim
-              (λ b. absurd (push .new (l, b .0, sym (b .1) ∙ sym same ∙ a .1)))
-              (λ b. a .0 ∙ sym (b .0)) (cases l less))
+          (λ b. absurd (push .new (l, b .0, sym (b .1) ∙ sym same ∙ a .1)))
+          (λ b. a .0 ∙ sym (b .0)) (cases l less))
           (cases k lt)
 
       pub pushed-found : Found ls q
@@ -101,13 +101,15 @@ module _ (ls : List Line) where
 
   pub lacking-stuck : (p : Phases) (F : ℕ) (e : PhaseRefusal) → Found ls p → Opened ls F → Lacking p F e → Stuck ls e
   lacking-stuck p F e found yet lack =
-      let full = lack .full in
-      (lack .is, overfull-outnumber (Opened ls) (phase-at p) 32 (record {
-        different = subst (Different (Opened ls) (phase-at p)) full (found .different);
-        another = F;
-        also = yet;
-        nowhere = λ k lt is. lack .new (k, omega arith, is);
-      }))
+      let full = lack .full in (
+        lack .is,
+        overfull-outnumber (Opened ls) (phase-at p) 32 (record {
+          different = subst (Different (Opened ls) (phase-at p)) full (found .different);
+          another = F;
+          also = yet;
+          nowhere = λ k lt is. lack .new (k, omega arith, is);
+        }),
+      )
 
   -- ---- when nothing is left to add
 
@@ -160,7 +162,7 @@ module _ (b : Book) where
 
   -- where the rule at a place is a notice, the phase after it by that notice was added
   pub went-rule : (p q : Phases) (F place : ℕ) (n : NoticeLine) (G : ℕ) → place < 64 → getD (b .rules) place rule.Free ≡ rule.Notice n → G ≡ after n F
-    → Found (lines b) p → Opened (lines b) G → Added p G q → Went (lines b) p q (RuleFollowed b q F place)
+      → Found (lines b) p → Opened (lines b) G → Added p G q → Went (lines b) p q (RuleFollowed b q F place)
   went-rule p q F place n G lt e is found yet added =
       let went = added-went (lines b) p q G found yet added in
       record {

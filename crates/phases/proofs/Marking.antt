@@ -30,8 +30,8 @@ module _ {X : Type 0} (rows : List X) (d : X) (fits : X → Type 0) (to : X → 
         marks-like s (ByRows rows d fits to i) (ByRows rows d fits to (i + 1))
         (λ t h. let lt = h .1 in (h .0, omega arith, h .2, h .3))
         (λ t h.
-            let lt = h .1 in
-            ⊎-elim (λ less. (h .0, less, h .2, h .3)) (λ le. let e : h .0 ≡ i = omega arith in absurd (bad (subst fits (ap (λ k. getD rows k d) e ∙ is) (h .2)))) (cases-lt (h .0) i))
+        let lt = h .1 in
+        ⊎-elim (λ less. (h .0, less, h .2, h .3)) (λ le. let e : h .0 ≡ i = omega arith in absurd (bad (subst fits (ap (λ k. getD rows k d) e ∙ is) (h .2)))) (cases-lt (h .0) i))
         m
 
     pub marks-hit : fits x → to x < 64 → Marks (set s (to x) true) (ByRows rows d fits to (i + 1))
@@ -49,7 +49,7 @@ module _ {X : Type 0} (rows : List X) (d : X) (fits : X → Type 0) (to : X → 
                 ⊎-elim
                 (λ e. ap (λ j. getD (set s (to x) true) j false) e ∙ getD-set-same s (to x) true false (omega arith))
                 (λ ne. getD-set-other s (to x) t true false ne ∙ m .just t .1
-                    (⊎-elim (λ less. (h .0, less, h .2, h .3)) (λ le. let e : h .0 ≡ i = omega arith in absurd (ne (sym (h .3) ∙ ap (λ k. to (getD rows k d)) e ∙ ap to is))) (cases-lt (h .0) i)))
+                (⊎-elim (λ less. (h .0, less, h .2, h .3)) (λ le. let e : h .0 ≡ i = omega arith in absurd (ne (sym (h .3) ∙ ap (λ k. to (getD rows k d)) e ∙ ap to is))) (cases-lt (h .0) i)))
                 (cases-eq t (to x)),
           );
         }

@@ -7,9 +7,9 @@ ghost use Rattle.text.specs.declared.line.Line.the-variants.{Notice};
 ghost use Rattle.model.specs.Phases.{InForce};
 ghost use Rattle.book.specs.Lines.{lines};
 ghost use Rattle.phases.specs.Missing.{Mentions, RuleMentions, Accepted, LeastMissing, NoneMissing, Lowered};
+use crate::sets::contains;
 use book::rule::Rule;
 use book::tables::Book;
-use crate::sets::contains;
 
 // How many numbers there are; as a least number, it stands for none.
 const NUMBERS: usize = 64;

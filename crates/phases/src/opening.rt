@@ -11,13 +11,13 @@ ghost use Rattle.phases.specs.Table.{Holds, FirstAt, OpenedBy};
 ghost use Rattle.phases.specs.Missing.{NoneMissing};
 ghost use Rattle.phases.specs.Refusals.{PhasesRefused, phase-number, phase-place};
 ghost use Rattle.phases.specs.Growth.{Added, Lacking, Found, Went, Stuck, RuleFollowed, Followed, Closed, Started};
-use book::rule::Rule;
-use book::tables::Book;
 use crate::missing::least_missing;
 use crate::refusal::PhaseRefusal;
 use crate::sets::allowed;
 use crate::sets::phase_after;
 use crate::table::Phases;
+use book::rule::Rule;
+use book::tables::Book;
 
 impl Phases {
     // The place of a phase: the first, where it stands at several.
@@ -64,7 +64,12 @@ fn start(book: &Book, phases: &mut Phases) -> Result<(), PhaseRefusal>
 }
 
 // Adds the phase after this one by the rule at a place, if that is a notice which can be carried out.
-fn follow_rule(book: &Book, phases: &mut Phases, phase: u64, place: usize) -> Result<(), PhaseRefusal>
+fn follow_rule(
+    book: &Book,
+    phases: &mut Phases,
+    phase: u64,
+    place: usize,
+) -> Result<(), PhaseRefusal>
     requires place { ⌜ place < 64 ⌝ }
     requires found { ⌜ Found (lines (now book)) (now phases) ⌝ }
     requires opened { ⌜ Opened (lines (now book)) phase ⌝ }
@@ -123,7 +128,10 @@ pub fn open_phases(book: &Book) -> Result<Phases, PhaseRefusal>
     if let Some(number) = least_missing(book) {
         return Err(PhaseRefusal::NotAccepted(number));
     }
-    let mut phases = Phases { table: [0; 32], count: 0 };
+    let mut phases = Phases {
+        table: [0; 32],
+        count: 0,
+    };
     start(book, &mut phases)?;
     close(book, &mut phases)?;
     Ok(phases)

@@ -15,7 +15,7 @@ use Rattle.text.specs.declared.line.Line.{Line}
 use Rattle.text.specs.declared.refusal.LineRefusal.the-variants.{Syntax, TooLarge, NotRising}
 use Rattle.text.specs.Forms.{Part, Form, Values, word, forms, rule-forms, order-tail, order-of, notice-tail, notice-of, open-tail, open-of, watch-tail, watch-of, link-tail, link-of, end-tail, end-of, bare-tail, bare-of}
 use Rattle.text.specs.Reading.{Outcome, scan, further, by-forms, read-as, read}
-use Rattle.text.specs.Steps.{agree, furthest}
+use Rattle.text.specs.Steps.{agree, furthest, Lacks}
 use Rattle.text.proofs.Names.{word-fails}
 use Rattle.text.proofs.Shapes.{scan-tells}
 use Rattle.text.proofs.Local.{same-place}
@@ -114,10 +114,6 @@ seven a b c d e f g =
     ∙ left (1 + max (max a b) c) (1 + d) _ ∙ ap (λ x. max x (max (1 + e) (1 + max f g))) (up (max (max a b) c) d)
     ∙ left (1 + max (max (max a b) c) d) (1 + e) _ ∙ ap (λ x. max x (1 + max f g)) (up (max (max (max a b) c) d) e)
     ∙ up (max (max (max (max a b) c) d) e) (max f g) ∙ ap (λ x. 1 + x) (left (max (max (max (max a b) c) d) e) f g)
-
--- s does not begin with w
-abbrev pub Lacks : List ℕ → List ℕ → Type 0
-Lacks w s = (t : List ℕ) → s ≡ w ++ t → ⊥
 
 -- a form is refused behind what the line has in common with its name
 stops : (s w : List ℕ) (ps : List Part) (line : Values ps → Line) → Lacks w s → scan (word w ∷ ps) line s 1 0 0 ≡ Err (Syntax (1 + agree w s))

@@ -2,7 +2,8 @@
 ghost use mathlib.Core.Path.{_≡_};
 ghost use mathlib.Core.Bool.{Bool, false, cond};
 ghost use mathlib.Core.List.{List, [], _∷_};
-ghost use Prim.Native.Nat.{ℕ, suc, max, _+_, _^_};
+ghost use Prim.Native.Nat.{ℕ, suc, max, _+_, _^_, _≤_};
+ghost use lib.ListN.{length};
 ghost use lib.Chars.{codes};
 ghost use Rattle.std.specs.Results.{Cases};
 ghost use Rattle.std.specs.declared.result.Result.the-variants.{Ok, Err};
@@ -13,7 +14,7 @@ ghost use Rattle.text.specs.Numerals.{kept, starts};
 ghost use Rattle.text.specs.Forms.{Part, Values, word, number, wagons, rising, toll-parts, bare-tail, bare-of, end-tail, end-of, watch-tail, watch-of, link-tail, link-of, order-tail, order-of, notice-tail, notice-of, open-tail, open-of, rule-forms};
 ghost use Rattle.text.specs.Reading.{Next, Outcome, noted, read, read-as, as-line, read-rule};
 ghost use Rattle.text.specs.Meaning.{Says, Says-as};
-ghost use Rattle.text.specs.Steps.{DigitsOff, NumberOff, scanned, word-then, number-then, goes-on, numbers-then, another-then, after-another, Behind, agree, furthest};
+ghost use Rattle.text.specs.Steps.{DigitsOff, NumberOff, scanned, word-then, number-then, goes-on, numbers-then, another-then, after-another, Behind, agree, furthest, Lacks};
 use crate::line::Line;
 use crate::line::LinkLine;
 use crate::line::NoticeLine;
@@ -448,39 +449,12 @@ fn unnamed(line: &[u8]) -> usize
     1 + most
 }
 
-// What the form that the line names makes of it.
-fn read_named(line: &[u8]) -> Result<Line, LineRefusal>
+// What a form of the watch makes of a line that names no other form.
+fn read_watch_form(line: &[u8]) -> Result<Line, LineRefusal>
+    requires short { ⌜ length (now line) ≤ 512 ⌝ }
+    requires other { ⌜ Lacks (codes "(order ") (now line) × (Lacks (codes "(notice ") (now line) × Lacks (codes "(open") (now line)) ⌝ }
     ensures { λ r. ⌜ r ≡ read (now (line .entry)) ⌝ }
 {
-    if line.len() > 512 {
-        return Err(LineRefusal::Syntax(513));
-    }
-    if let Some(rest) = after_order(line) {
-        let order = LineReader {
-            rest,
-            place: 8,
-            over: 0,
-            falls: 0,
-        }.order()?;
-        return Ok(Line::Order(order));
-    }
-    if let Some(rest) = after_notice(line) {
-        let notice = LineReader {
-            rest,
-            place: 9,
-            over: 0,
-            falls: 0,
-        }.notice()?;
-        return Ok(Line::Notice(notice));
-    }
-    if let Some(rest) = after_open(line) {
-        return LineReader {
-            rest,
-            place: 6,
-            over: 0,
-            falls: 0,
-        }.phase();
-    }
     if let Some(rest) = after_watch(line) {
         return LineReader {
             rest,
@@ -514,6 +488,42 @@ fn read_named(line: &[u8]) -> Result<Line, LineRefusal>
         }.bare();
     }
     Err(LineRefusal::Syntax(unnamed(line)))
+}
+
+// What the form that the line names makes of it.
+fn read_named(line: &[u8]) -> Result<Line, LineRefusal>
+    ensures { λ r. ⌜ r ≡ read (now (line .entry)) ⌝ }
+{
+    if line.len() > 512 {
+        return Err(LineRefusal::Syntax(513));
+    }
+    if let Some(rest) = after_order(line) {
+        let order = LineReader {
+            rest,
+            place: 8,
+            over: 0,
+            falls: 0,
+        }.order()?;
+        return Ok(Line::Order(order));
+    }
+    if let Some(rest) = after_notice(line) {
+        let notice = LineReader {
+            rest,
+            place: 9,
+            over: 0,
+            falls: 0,
+        }.notice()?;
+        return Ok(Line::Notice(notice));
+    }
+    if let Some(rest) = after_open(line) {
+        return LineReader {
+            rest,
+            place: 6,
+            over: 0,
+            falls: 0,
+        }.phase();
+    }
+    read_watch_form(line)
 }
 
 // The first place at which neither of these names goes on.

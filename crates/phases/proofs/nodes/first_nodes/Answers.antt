@@ -28,17 +28,19 @@ loop-i-again c =
     let now = ByRows (b .watches) blank-watch fits watch-to (i + 1) in
     let miss = marks-miss (b .watches) blank-watch fits watch-to (c .loop-i .nodes) i row is (c .loop-i .inv) in
     elim (c .if-get-mode .came) [
-      then-get-mode·then-get-wagon w ↦
-        let small = row .node .fits in
-        subst (λ s. Marks s now) (sym (w .nodes-is))
-        (subst (λ t. Marks (set (c .loop-i .nodes) t true) now) (sym (w .get-then-get-wagon .ensures))
-        (marks-hit (b .watches) blank-watch fits watch-to (c .loop-i .nodes) i row is (c .loop-i .inv)
-        (sym (c .get .ensures) ∙ w .if-get-mode .taken, sym (w .get-then-get-mode .ensures) ∙ w .if-get-wagon .taken) (omega arith)))
-    | else-get-mode w ↦
-        subst (λ s. Marks s now) (sym (w .nodes-is))
-        (miss (λ h. elim (w .else-get-mode .came) [
-          else-get-mode·by·then-get-mode·else-get-wagon w′ ↦ w′ .if-get-wagon .left (w′ .get-then-get-mode .ensures ∙ h .1)
-        | else-get-mode·by·else-get-mode w′ ↦ w′ .if-get-mode .left (c .get .ensures ∙ h .0) ])) ]
+      | then-get-mode·then-get-wagon w ↦
+          let small = row .node .fits in
+          subst (λ s. Marks s now) (sym (w .nodes-is))
+          (subst (λ t. Marks (set (c .loop-i .nodes) t true) now) (sym (w .get-then-get-wagon .ensures))
+          (marks-hit (b .watches) blank-watch fits watch-to (c .loop-i .nodes) i row is (c .loop-i .inv)
+          (sym (c .get .ensures) ∙ w .if-get-mode .taken, sym (w .get-then-get-mode .ensures) ∙ w .if-get-wagon .taken) (omega arith)))
+      | else-get-mode w ↦
+          subst (λ s. Marks s now) (sym (w .nodes-is))
+          (miss (λ h. elim (w .else-get-mode .came) [
+            | else-get-mode·by·then-get-mode·else-get-wagon w′ ↦ w′ .if-get-wagon .left (w′ .get-then-get-mode .ensures ∙ h .1)
+            | else-get-mode·by·else-get-mode w′ ↦ w′ .if-get-mode .left (c .get .ensures ∙ h .0)
+          ]))
+    ]
 
 pub returns : need.returns
 returns c =

@@ -29,17 +29,19 @@ loop-i-again c =
     let now = ByRows (b .links) blank-link fits link-to (i + 1) in
     let miss = marks-miss (b .links) blank-link fits link-to (c .loop-i .nodes) i row is (c .loop-i .inv) in
     elim (c .if-from-get .came) [
-      then-from-get·then-get-wagon w ↦
-        let small = row .to .fits in
-        subst (λ s. Marks s now) (sym (w .nodes-is))
-        (subst (λ t. Marks (set (c .loop-i .nodes) t true) now) (sym (w .get-then-get-wagon .ensures))
-        (marks-hit (b .links) blank-link fits link-to (c .loop-i .nodes) i row is (c .loop-i .inv)
-        (subst (Marked (c .args .from .now)) (c .get .ensures) (w .if-from-get .taken), sym (w .get-then-from-get .ensures) ∙ w .if-get-wagon .taken) (omega arith)))
-    | else-from-get w ↦
-        subst (λ s. Marks s now) (sym (w .nodes-is))
-        (miss (λ h. elim (w .else-from-get .came) [
-          else-from-get·by·then-from-get·else-get-wagon w′ ↦ w′ .if-get-wagon .left (w′ .get-then-from-get .ensures ∙ h .1)
-        | else-from-get·by·else-from-get w′ ↦ false≢true (sym (w′ .if-from-get .left) ∙ subst (Marked (c .args .from .now)) (sym (c .get .ensures)) (h .0)) ])) ]
+      | then-from-get·then-get-wagon w ↦
+          let small = row .to .fits in
+          subst (λ s. Marks s now) (sym (w .nodes-is))
+          (subst (λ t. Marks (set (c .loop-i .nodes) t true) now) (sym (w .get-then-get-wagon .ensures))
+          (marks-hit (b .links) blank-link fits link-to (c .loop-i .nodes) i row is (c .loop-i .inv)
+          (subst (Marked (c .args .from .now)) (c .get .ensures) (w .if-from-get .taken), sym (w .get-then-from-get .ensures) ∙ w .if-get-wagon .taken) (omega arith)))
+      | else-from-get w ↦
+          subst (λ s. Marks s now) (sym (w .nodes-is))
+          (miss (λ h. elim (w .else-from-get .came) [
+            | else-from-get·by·then-from-get·else-get-wagon w′ ↦ w′ .if-get-wagon .left (w′ .get-then-from-get .ensures ∙ h .1)
+            | else-from-get·by·else-from-get w′ ↦ false≢true (sym (w′ .if-from-get .left) ∙ subst (Marked (c .args .from .now)) (sym (c .get .ensures)) (h .0))
+          ]))
+    ]
 
 pub returns : need.returns
 returns c =
