@@ -1,5 +1,4 @@
-use mathlib.Core.Path.{_≡_, sym, subst, _∙_}
-use mathlib.Core.List.{[], _∷_}
+use mathlib.Core.Path.{sym, subst}
 use Prim.Native.Nat.{_+_}
 use lib.ListN.{getD, drop}
 use Rattle.std.proofs.shelf.Lists.{drop-more, drop-all}
@@ -18,15 +17,17 @@ loop-wagon-again c =
     let here = Marked (c .loop-wagon .nodes) in
     let next = Marked (c .next-nodes-nodes .result) in
     let first = drop-more ws i 0 (c .loop-wagon-test .taken) in
-    let just = c .next-nodes-nodes .ensures .just in
-    (λ h. leads-like ls (Links ls here k) next rest (λ t. just t .1) (leads-on ls here k rest (subst (LeadsFrom ls here) first (c .loop-wagon .inv .0 h))),
-    λ h. c .loop-wagon .inv .1 (subst (LeadsFrom ls here) (sym first) (on-leads ls here k rest (leads-like ls next (Links ls here k) rest (λ t. just t .0) h))))
+    let just = c .next-nodes-nodes .ensures .just in (
+      λ h. leads-like ls (Links ls here k) next rest (λ t. just t .1) (leads-on ls here k rest (subst (LeadsFrom ls here) first (c .loop-wagon .inv .0 h))),
+      λ h. c .loop-wagon .inv .1 (subst (LeadsFrom ls here) (sym first) (on-leads ls here k rest (leads-like ls next (Links ls here k) rest (λ t. just t .0) h))),
+    )
 
 pub returns : need.returns
 returns c =
     let ls = lines (c .args .book .now) in
     let ws = c .args .wagons .now in
     let here = Marked (c .loop-wagon .nodes) in
-    let done = drop-all (c .loop-wagon .wagon-index) ws (c .loop-wagon-test .left) in
-    (λ e. c .loop-wagon .inv .1 (subst (LeadsFrom ls here) (sym done) (end-leads ls here (c .any-end .ensures .0 e))),
-    λ h. c .any-end .ensures .1 (leads-end ls here (subst (LeadsFrom ls here) done (c .loop-wagon .inv .0 h))))
+    let done = drop-all (c .loop-wagon .wagon-index) ws (c .loop-wagon-test .left) in (
+      λ e. c .loop-wagon .inv .1 (subst (LeadsFrom ls here) (sym done) (end-leads ls here (c .any-end .ensures .0 e))),
+      λ h. c .any-end .ensures .1 (leads-end ls here (subst (LeadsFrom ls here) done (c .loop-wagon .inv .0 h))),
+    )

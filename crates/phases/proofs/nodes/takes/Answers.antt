@@ -1,6 +1,5 @@
 use borrow.Author.Needs.{needs}
-use mathlib.Core.Path.{_≡_, sym, subst, _∙_}
-use mathlib.Core.List.{[]}
+use mathlib.Core.Path.{_≡_, sym, subst}
 use Prim.Native.Nat.{_-_, _≤_}
 use lib.ListN.{length, getD, take, drop}
 use Rattle.std.proofs.shelf.Lists.{nil-from-length}
@@ -28,6 +27,7 @@ returns-in-len1-up c =
     let some : 1 ≤ length lane = search needs in
     let parts = lane-parts lane some in
     let first = Marked (c .first-nodes .result) in
-    let just = c .first-nodes .ensures .just in
-    (λ e. subst (Takes ls mode) (sym parts) (read-takes ls mode top others (leads-like ls first (Enters ls mode top) others (λ t. just t .0) (c .leads .ensures .0 e))),
-    λ h. c .leads .ensures .1 (leads-like ls (Enters ls mode top) first others (λ t. just t .1) (takes-read ls mode top others (subst (Takes ls mode) parts h))))
+    let just = c .first-nodes .ensures .just in (
+      λ e. subst (Takes ls mode) (sym parts) (read-takes ls mode top others (leads-like ls first (Enters ls mode top) others (λ t. just t .0) (c .leads .ensures .0 e))),
+      λ h. c .leads .ensures .1 (leads-like ls (Enters ls mode top) first others (λ t. just t .1) (takes-read ls mode top others (subst (Takes ls mode) parts h))),
+    )

@@ -9,9 +9,10 @@ use Rattle.phases.proofs.watch.fits.Needs as need
 
 pub returns-then-wagon-gt31 : need.returns-then-wagon-gt31
 returns-then-wagon-gt31 c =
-    let gt = c .if-wagon-gt31 .taken in
-    (λ e. absurd (false≢true e),
-    λ h. let le = all-getD (λ k. k ≤ 31) (c .args .lane .now) (c .loop-wagon .wagon-index) 0 (c .loop-wagon-test .taken) (h .wagons-fit) in absurd (omega arith))
+    let gt = c .if-wagon-gt31 .taken in (
+      λ e. absurd (false≢true e),
+      λ h. let le = all-getD (λ k. k ≤ 31) (c .args .lane .now) (c .loop-wagon .wagon-index) 0 (c .loop-wagon-test .taken) (h .wagons-fit) in absurd (omega arith),
+    )
 
 pub loop-wagon-again : need.loop-wagon-again
 loop-wagon-again c = all-more (λ k. k ≤ 31) (c .args .lane .now) (c .loop-wagon .wagon-index) 0 (c .loop-wagon-test .taken) (c .loop-wagon .inv) (c .if-wagon-gt31 .left)
