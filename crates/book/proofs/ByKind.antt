@@ -62,7 +62,7 @@ behind links = ends ∷ bares ∷ []
 behind ends = bares ∷ []
 behind bares = []
 
-around : (k : Kind) → kinds ≡ before k ++ k ∷ behind k
+pub around : (k : Kind) → kinds ≡ before k ++ k ∷ behind k
 around rules = refl
 around opens = refl
 around watches = refl
@@ -86,7 +86,7 @@ starts-behind links = omega arith
 starts-behind ends = omega arith
 starts-behind bares = tt
 
-joined-append : {X Y : Type 0} (f : X → List Y) (xs ys : List X) → joined f (xs ++ ys) ≡ joined f xs ++ joined f ys
+pub joined-append : {X Y : Type 0} (f : X → List Y) (xs ys : List X) → joined f (xs ++ ys) ≡ joined f xs ++ joined f ys
 joined-append f [] ys = refl
 joined-append f (x ∷ xs) ys = ap (λ l. f x ++ l) (joined-append f xs ys) ∙ sym (append-assoc (f x) (joined f xs) (joined f ys))
 

@@ -14,48 +14,75 @@ use Rattle.grade.proofs.Values.{same-upto}
 use Rattle.grade.specs.declared.upto.UpTo.{UpTo}
 use Rattle.text.specs.declared.line.Line.{Line}
 use Rattle.text.specs.declared.line.Line.the-variants as line
+use Rattle.text.specs.declared.line.WatchLine.{WatchLine}
+use Rattle.text.specs.declared.line.LinkLine.{LinkLine}
 use Rattle.text.specs.Numerals.{kept}
 use Rattle.text.specs.Meaning.{Within}
 use Rattle.book.specs.declared.rule.Rule.{Rule}
 use Rattle.book.specs.declared.rule.Rule.the-variants.{Free}
 use Rattle.book.specs.declared.tables.Book.{Book}
 use Rattle.book.specs.Order.{Ascending, Tidy, among, put}
-use Rattle.book.specs.Ranks.{Kind, rules, ends, bares, kind, start, rank}
-use Rattle.book.specs.Tables.{filled, rule-line, end-line, bare-line, by-number}
+use Rattle.book.specs.Ranks.{Kind, rules, opens, watches, links, ends, bares, kind, start, rank, phase-rank, watch-rank, link-rank}
+use Rattle.book.specs.Tables.{blank-watch, blank-link, filled, rule-line, end-line, bare-line, by-number}
 use Rattle.book.specs.Lines.{lines-of, lines}
 use Rattle.book.specs.Entering.{clashes, many}
 use Rattle.book.proofs.Ascent.{ascending-told, put-all, put-ascending, put-map, among-map}
 use Rattle.book.proofs.Seats.{Seated, seats-put, seats-among}
 use Rattle.book.proofs.Books.{kept-is, clash-kind, many-lines, rules-seated, ends-seated, bares-seated}
 
--- a table with x put among its rows
-pub tidy-put : {X : Type 0} (low : X → ℕ) (blank : X) (size : ℕ) (rows after : List X) (n : ℕ) (x : X) → Tidy low blank size rows n → n < size → among low (low x) (take n rows) ≡ false
-    → length after ≡ length rows → take (n + 1) after ≡ put low x (take n rows) → drop (n + 1) after ≡ drop (n + 1) rows → Tidy low blank size after (n + 1)
-tidy-put low blank size rows after n x tidy room new long used rest =
-    let e : size - n - 1 ≡ size - (n + 1) = omega arith in (
-      long ∙ tidy .0,
-      omega arith,
-      ∣ subst (Ascending low) (sym used) (put-ascending low x (take n rows) (ascending-told low (take n rows) (tidy .2)) new) ∣₁,
-      rest ∙ sym (drop-drop 1 n rows) ∙ ap (drop 1) (tidy .3) ∙ drop-replicate 1 (size - n) blank ∙ ap (λ m. replicate m blank) e,
-    )
+-- the table of a kind whose rows are in use from the first on
+pub record Rows (b : Book) (k : Kind) (X : Type 0) : Type 0 where
+  pub line : X → Line
+  pub low : X → ℕ
+  pub blank : X
+  pub size : ℕ
+  pub rows : List X
+  pub used : ℕ
+  pub rank-is : (x : X) → rank (line x) ≡ start k + low x
+  pub kind-is : (x : X) → kind (line x) ≡ k
+  pub lines-are : lines-of b k ≡ map line (take used rows)
+  pub tidy : Tidy low blank size rows used
 
--- the rows of a table as lines of their kind
-module _ {X : Type 0} (f : X → Line) (low : X → ℕ) (k : Kind) (is : (x : X) → rank (f x) ≡ start k + low x) (of : (x : X) → kind (f x) ≡ k) (b : Book) (rows : List X) (n : ℕ) (own : lines-of b k ≡ map f (take n rows)) where
-  pub rows-put : (after : List X) (x : X) → take (n + 1) after ≡ put low x (take n rows) → map f (take (n + 1) after) ≡ put rank (f x) (lines-of b k)
-  rows-put after x used = ap (map f) used ∙ sym (ap (put rank (f x)) own ∙ put-map f rank low (start k) is x (take n rows))
+abbrev pub opens-rows : (b : Book) → Rows b opens ℕ
+opens-rows b = record { line = line.Open; low = phase-rank; blank = 0; size = 8; rows = b .opens; used = b .opening; rank-is = λ _. refl; kind-is = λ _. refl; lines-are = refl; tidy = b .opened }
 
-  pub rows-clash : (x : X) → Within (f x) → clashes (lines b) (f x) ≡ among low (low x) (take n rows)
-  rows-clash x w = clash-kind b (f x) w ∙ ap (λ j. among rank (rank (f x)) (lines-of b j)) (of x) ∙ ap (among rank (rank (f x))) own ∙ among-map f rank low (start k) is x (take n rows)
+abbrev pub watches-rows : (b : Book) → Rows b watches WatchLine
+watches-rows b = record { line = line.Watch; low = watch-rank; blank = blank-watch; size = 128; rows = b .watches; used = b .watching; rank-is = λ _. refl; kind-is = λ _. refl; lines-are = refl; tidy = b .watched }
 
-  pub rows-new : (x : X) → Within (f x) → clashes (lines b) (f x) ≡ false → among low (low x) (take n rows) ≡ false
-  rows-new x w new = sym (rows-clash x w) ∙ new
+abbrev pub links-rows : (b : Book) → Rows b links LinkLine
+links-rows b = record { line = line.Link; low = link-rank; blank = blank-link; size = 128; rows = b .links; used = b .linking; rank-is = λ _. refl; kind-is = λ _. refl; lines-are = refl; tidy = b .linked }
 
-  pub rows-many : (size : ℕ) → length rows ≡ size → n ≤ size → many k (lines b) ≡ n
-  rows-many size long le = many-lines b k ∙ ap length own ∙ length-map (take n rows) f ∙ length-take-le n rows (omega arith)
+module _ {b : Book} {k : Kind} {X : Type 0} (t : Rows b k X) where
+  pub rows-many : many k (lines b) ≡ t .used
+  rows-many =
+      let long = t .tidy .0 in
+      let few = t .tidy .1 in
+      many-lines b k ∙ ap length (t .lines-are) ∙ length-map (take (t .used) (t .rows)) (t .line) ∙ length-take-le (t .used) (t .rows) (omega arith)
 
-  -- where there is one row more
-  pub rows-room : (size : ℕ) → length rows ≡ size → n ≤ size → leb size (many k (lines b)) ≡ false → n < size
-  rows-room size long le room = let lt = leb-false size (many k (lines b)) room in let e = rows-many size long le in omega arith
+  -- where the kind is not full, a row is free
+  pub rows-room : leb (t .size) (many k (lines b)) ≡ false → t .used < t .size
+  rows-room room = let lt = leb-false (t .size) (many k (lines b)) room in let e = rows-many in omega arith
+
+  pub rows-clash : (x : X) → Within (t .line x) → clashes (lines b) (t .line x) ≡ among (t .low) (t .low x) (take (t .used) (t .rows))
+  rows-clash x w =
+      clash-kind b (t .line x) w ∙ ap (λ j. among rank (rank (t .line x)) (lines-of b j)) (t .kind-is x) ∙ ap (among rank (rank (t .line x))) (t .lines-are)
+      ∙ among-map (t .line) rank (t .low) (start k) (t .rank-is) x (take (t .used) (t .rows))
+
+  -- x placed among the rows in use
+  module _ (x : X) (after : List X) (placed : take (t .used + 1) after ≡ put (t .low) x (take (t .used) (t .rows))) where
+    pub rows-put : map (t .line) (take (t .used + 1) after) ≡ put rank (t .line x) (lines-of b k)
+    rows-put = ap (map (t .line)) placed ∙ sym (ap (put rank (t .line x)) (t .lines-are) ∙ put-map (t .line) rank (t .low) (start k) (t .rank-is) x (take (t .used) (t .rows)))
+
+    pub rows-tidy : Within (t .line x) → clashes (lines b) (t .line x) ≡ false → leb (t .size) (many k (lines b)) ≡ false → length after ≡ length (t .rows) → drop (t .used + 1) after ≡ drop (t .used + 1) (t .rows)
+        → Tidy (t .low) (t .blank) (t .size) after (t .used + 1)
+    rows-tidy w new room long rest =
+        let free = rows-room room in
+        let e : t .size - t .used - 1 ≡ t .size - (t .used + 1) = omega arith in (
+          long ∙ t .tidy .0,
+          omega arith,
+          ∣ subst (Ascending (t .low)) (sym placed) (put-ascending (t .low) x (take (t .used) (t .rows)) (ascending-told (t .low) (take (t .used) (t .rows)) (t .tidy .2)) (sym (rows-clash x w) ∙ new)) ∣₁,
+          rest ∙ sym (drop-drop 1 (t .used) (t .rows)) ∙ ap (drop 1) (t .tidy .3) ∙ drop-replicate 1 (t .size - t .used) (t .blank) ∙ ap (λ m. replicate m (t .blank)) e,
+        )
 
 -- what holds of each row, and of x, holds of each row after x was placed among the first n
 pub all-placed : {X : Type 0} (low : X → ℕ) (P : X → Type 0) (rows after : List X) (n : ℕ) (x : X) → P x → All P rows → take (n + 1) after ≡ put low x (take n rows) → drop (n + 1) after ≡ drop (n + 1) rows → All P after

@@ -6,4 +6,8 @@ pub mod Turns
 pub mod Entries
 pub mod Barred
 pub mod Joining
+pub mod Places
+pub mod Written
+pub mod Back
+pub mod Told
 pub mod Standing

@@ -7,7 +7,8 @@ ghost use Rattle.book.specs.Ranks.{phase-rank, watch-rank, link-rank};
 use text::line::LinkLine;
 use text::line::WatchLine;
 
-pub trait Ranked {
+// What may stand in such a table: it has a rank, which `key` gives.
+pub(crate) trait Ranked {
     ghost rank: { Self → ℕ };
 
     fn key(&self) -> u64
@@ -40,7 +41,7 @@ pub impl Ranked for LinkLine as LinkRanked {
 }
 
 // Whether a row with x's rank is among these.
-pub fn contains<T: Ranked>(rows: &[T], x: &T) -> bool
+pub(crate) fn contains<T: Ranked>(rows: &[T], x: &T) -> bool
     ensures { λ r. ⌜ r ≡ among rank (rank (now (x .entry))) (now (rows .entry)) ⌝ }
 {
     let key = x.key();
@@ -66,7 +67,7 @@ fn position<T: Ranked>(rows: &[T], key: u64) -> usize
 }
 
 // Puts x at its place among the first n rows; those behind it move up by one.
-pub fn place<T: Ranked + Copy>(rows: &mut [T], n: usize, x: T)
+pub(crate) fn place<T: Ranked + Copy>(rows: &mut [T], n: usize, x: T)
     requires { ⌜ n < length (now rows) ⌝ }
     ensures used { λ _. ⌜ take (n + 1) (now (rows .exit)) ≡ put rank x (take n (now (rows .entry))) ⌝ }
     ensures rest { λ _. ⌜ drop (n + 1) (now (rows .exit)) ≡ drop (n + 1) (now (rows .entry)) ⌝ }

@@ -7,6 +7,8 @@ ghost use Rattle.book.specs.Ranks.{phase-rank, watch-rank, link-rank};
 ghost use Rattle.book.specs.Tables.{Along, At-number, blank-watch, blank-link};
 
 mod accept;
+mod blank;
+mod write;
 
 use crate::rule::Rule;
 use text::line::LinkLine;
@@ -28,6 +30,7 @@ pub struct Book {
     // whether the node, or the mode, with this number has a line
     pub ends: [bool; 64],
     pub bares: [bool; 16],
+    // what makes equal books equal records
     ghost numbered: { (length rules ≡ 64) × ∥ Along At-number 0 rules ∥₁ },
     ghost phases: { ∥ All (λ F. F < 2 ^ 64) opens ∥₁ },
     ghost opened: { Tidy phase-rank 0 8 opens opening },

@@ -1,0 +1,4 @@
+pub mod Sets
+pub mod Phases
+pub mod Moves
+pub mod Lines

@@ -1,7 +1,7 @@
 -- What holds of moves, phases and the watch in every book.
 use mathlib.Core.Path.{_≡_}
-use mathlib.Core.Bool.{true, false}
-use mathlib.Core.List.{List, _∷_}
+use mathlib.Core.Bool.{false}
+use mathlib.Core.List.{List}
 use Prim.Native.Nat.{ℕ}
 use Rattle.std.specs.declared.option.Option.{Option}
 use Rattle.std.specs.declared.option.Option.the-variants.{Some, None}
@@ -10,7 +10,7 @@ use Rattle.text.specs.declared.line.Line.{Line}
 use Rattle.text.specs.declared.line.Line.the-variants.{Order, Notice, Open, Watch, Link, End, Bare}
 use Rattle.text.specs.Phases.{has}
 use Rattle.model.specs.Phases.{Stands, InForce, Allows, after, Opened}
-use Rattle.model.specs.Moves.{Position, at, Move, Step, Run}
+use Rattle.model.specs.Moves.{Position, Move, Step, Run}
 use Rattle.model.specs.Watch.{Watched, Reaches}
 
 -- a run from an opened phase stays in opened phases

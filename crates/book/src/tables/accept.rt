@@ -2,14 +2,13 @@
 ghost use mathlib.Core.Path.{_≡_};
 ghost use mathlib.Core.Bool.{false};
 ghost use lib.ListN.{getD};
-ghost use mathlib.Core.List.{List, []};
-ghost use Prim.Native.Nat.{ℕ, _<_};
+ghost use Prim.Native.Nat.{_<_};
 ghost use Rattle.std.specs.Results.{Cases};
 ghost use Rattle.std.specs.declared.result.Result.the-variants.{Ok, Err};
 ghost use Rattle.text.specs.Meaning.{Within};
 ghost use Rattle.book.specs.Order.{put};
 ghost use Rattle.book.specs.Ranks.{rank};
-ghost use Rattle.book.specs.Tables.{nought, blank-watch, blank-link, rule-line, filled};
+ghost use Rattle.book.specs.Tables.{rule-line, filled};
 ghost use Rattle.book.specs.Lines.{lines};
 ghost use Rattle.book.specs.declared.rule.Rule.the-variants.{Free};
 ghost use Rattle.book.specs.Entering.{clashes, full, entered};
@@ -22,57 +21,10 @@ use crate::rows::contains;
 use crate::rows::place;
 use crate::rule::Rule;
 use crate::tables::Book;
-use grade::upto::UpTo;
 use text::line::Line;
-use text::line::LinkLine;
-use text::line::WatchLine;
 use text::reader::read_line;
 
-fn zero<const MAX: u16>() -> UpTo<MAX>
-    ensures { λ r. ⌜ r ≡ nought MAX ⌝ }
-{
-    UpTo { value: 0 }
-}
-
-// The rows that are not in use.
-fn blank_watch() -> WatchLine
-    ensures { λ r. ⌜ r ≡ blank-watch ⌝ }
-{
-    WatchLine {
-        mode: zero(),
-        wagon: zero(),
-        node: zero(),
-    }
-}
-
-fn blank_link() -> LinkLine
-    ensures { λ r. ⌜ r ≡ blank-link ⌝ }
-{
-    LinkLine {
-        node: zero(),
-        wagon: zero(),
-        to: zero(),
-    }
-}
-
 impl Book {
-    // A book in which no line stands.
-    pub fn new() -> Book
-        ensures { λ r. ⌜ lines r ≡ [] ⌝ }
-    {
-        Book {
-            rules: [Rule::Free; 64],
-            opens: [0; 8],
-            opening: 0,
-            watches: [blank_watch(); 128],
-            watching: 0,
-            links: [blank_link(); 128],
-            linking: 0,
-            ends: [false; 64],
-            bares: [false; 16],
-        }
-    }
-
     // Whether an order or notice with this number, or this very line, stands.
     fn stands(&self, line: &Line) -> bool
         requires { ⌜ Within (now line) ⌝ }

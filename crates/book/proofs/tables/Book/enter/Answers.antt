@@ -8,34 +8,34 @@ use Rattle.text.specs.declared.line.Line.the-variants.{Order, Notice, Open, Wat
 use Rattle.text.specs.Meaning.{Within}
 use Rattle.book.specs.declared.rule.Rule.the-variants as rule
 use Rattle.book.specs.Order.{put}
-use Rattle.book.specs.Ranks.{opens, watches, links, rank, phase-rank, watch-rank, link-rank}
-use Rattle.book.specs.Tables.{At-number, blank-watch, blank-link}
+use Rattle.book.specs.Ranks.{rank, phase-rank}
+use Rattle.book.specs.Tables.{At-number}
 use Rattle.book.specs.Lines.{lines}
 use Rattle.book.specs.Entering.{clashes, full}
 use Rattle.book.proofs.Seats.{along-set}
 use Rattle.book.proofs.Books.{at-numbers, phases, put-lines}
-use Rattle.book.proofs.Entries.{tidy-put, all-placed, rows-put, rows-new, rows-room, rule-put, end-put, bare-put}
+use Rattle.book.proofs.Entries.{opens-rows, watches-rows, links-rows, rows-room, rows-put, rows-tidy, all-placed, rule-put, end-put, bare-put}
 use Rattle.book.proofs.tables.Book.enter.Needs as need
 
 pub place-requires : need.place-requires
 place-requires c κs =
     let b = c .args .self .now in
     let long = b .opened .0 in
-    let room = rows-room Open phase-rank opens (λ _. refl) (λ _. refl) b (b .opens) (b .opening) refl 8 (b .opened .0) (b .opened .1) (subst (λ l. full (lines b) l ≡ false) (c .in-Open .is) (c .pre .room)) in
+    let room = rows-room (opens-rows b) (subst (λ l. full (lines b) l ≡ false) (c .in-Open .is) (c .pre .room)) in
     omega arith
 
 pub place-requires-in-Watch : need.place-requires-in-Watch
 place-requires-in-Watch c κs =
     let b = c .args .self .now in
     let long = b .watched .0 in
-    let room = rows-room Watch watch-rank watches (λ _. refl) (λ _. refl) b (b .watches) (b .watching) refl 128 (b .watched .0) (b .watched .1) (subst (λ l. full (lines b) l ≡ false) (c .in-Watch .is) (c .pre .room)) in
+    let room = rows-room (watches-rows b) (subst (λ l. full (lines b) l ≡ false) (c .in-Watch .is) (c .pre .room)) in
     omega arith
 
 pub place-requires-in-Link : need.place-requires-in-Link
 place-requires-in-Link c κs =
     let b = c .args .self .now in
     let long = b .linked .0 in
-    let room = rows-room Link link-rank links (λ _. refl) (λ _. refl) b (b .links) (b .linking) refl 128 (b .linked .0) (b .linked .1) (subst (λ l. full (lines b) l ≡ false) (c .in-Link .is) (c .pre .room)) in
+    let room = rows-room (links-rows b) (subst (λ l. full (lines b) l ≡ false) (c .in-Link .is) (c .pre .room)) in
     omega arith
 
 pub ghost-self : need.ghost-self
@@ -60,28 +60,29 @@ pub ghost-self-in-Open : need.ghost-self-in-Open
 ghost-self-in-Open c =
     let b = c .args .self .now in
     let x = c .in-Open .phase in
+    let after = c .place .last .rows in
+    let done = c .place .ensures in
     let within = subst Within (c .in-Open .is) (c .pre .within) in
-    let room = rows-room Open phase-rank opens (λ _. refl) (λ _. refl) b (b .opens) (b .opening) refl 8 (b .opened .0) (b .opened .1) (subst (λ l. full (lines b) l ≡ false) (c .in-Open .is) (c .pre .room)) in
-    let new = rows-new Open phase-rank opens (λ _. refl) (λ _. refl) b (b .opens) (b .opening) refl x within (subst (λ l. clashes (lines b) l ≡ false) (c .in-Open .is) (c .pre .new)) in
-    (b .numbered, (∣ all-placed phase-rank (λ F. F < 2 ^ 64) (b .opens) (c .place .last .rows) (b .opening) x within (phases b) (c .place .ensures .used) (c .place .ensures .rest) ∣₁, (tidy-put phase-rank 0 8 (b .opens) (c .place .last .rows) (b .opening) x (b .opened) room new (c .place .kept .rows) (c .place .ensures .used) (c .place .ensures .rest), (b .watched, (b .linked, (b .marked, tt))))))
+    let tidy = rows-tidy (opens-rows b) x after (done .used) within (subst (λ l. clashes (lines b) l ≡ false) (c .in-Open .is) (c .pre .new)) (subst (λ l. full (lines b) l ≡ false) (c .in-Open .is) (c .pre .room)) (c .place .kept .rows) (done .rest) in
+    (b .numbered, (∣ all-placed phase-rank (λ F. F < 2 ^ 64) (b .opens) after (b .opening) x within (phases b) (done .used) (done .rest) ∣₁, (tidy, (b .watched, (b .linked, (b .marked, tt))))))
 
 pub ghost-self-in-Watch : need.ghost-self-in-Watch
 ghost-self-in-Watch c =
     let b = c .args .self .now in
     let x = c .in-Watch .w in
-    let within = tt in
-    let room = rows-room Watch watch-rank watches (λ _. refl) (λ _. refl) b (b .watches) (b .watching) refl 128 (b .watched .0) (b .watched .1) (subst (λ l. full (lines b) l ≡ false) (c .in-Watch .is) (c .pre .room)) in
-    let new = rows-new Watch watch-rank watches (λ _. refl) (λ _. refl) b (b .watches) (b .watching) refl x within (subst (λ l. clashes (lines b) l ≡ false) (c .in-Watch .is) (c .pre .new)) in
-    (b .numbered, (b .phases, (b .opened, (tidy-put watch-rank blank-watch 128 (b .watches) (c .place-in-Watch .last .rows) (b .watching) x (b .watched) room new (c .place-in-Watch .kept .rows) (c .place-in-Watch .ensures .used) (c .place-in-Watch .ensures .rest), (b .linked, (b .marked, tt))))))
+    let after = c .place-in-Watch .last .rows in
+    let done = c .place-in-Watch .ensures in
+    let tidy = rows-tidy (watches-rows b) x after (done .used) tt (subst (λ l. clashes (lines b) l ≡ false) (c .in-Watch .is) (c .pre .new)) (subst (λ l. full (lines b) l ≡ false) (c .in-Watch .is) (c .pre .room)) (c .place-in-Watch .kept .rows) (done .rest) in
+    (b .numbered, (b .phases, (b .opened, (tidy, (b .linked, (b .marked, tt))))))
 
 pub ghost-self-in-Link : need.ghost-self-in-Link
 ghost-self-in-Link c =
     let b = c .args .self .now in
     let x = c .in-Link .k in
-    let within = tt in
-    let room = rows-room Link link-rank links (λ _. refl) (λ _. refl) b (b .links) (b .linking) refl 128 (b .linked .0) (b .linked .1) (subst (λ l. full (lines b) l ≡ false) (c .in-Link .is) (c .pre .room)) in
-    let new = rows-new Link link-rank links (λ _. refl) (λ _. refl) b (b .links) (b .linking) refl x within (subst (λ l. clashes (lines b) l ≡ false) (c .in-Link .is) (c .pre .new)) in
-    (b .numbered, (b .phases, (b .opened, (b .watched, (tidy-put link-rank blank-link 128 (b .links) (c .place-in-Link .last .rows) (b .linking) x (b .linked) room new (c .place-in-Link .kept .rows) (c .place-in-Link .ensures .used) (c .place-in-Link .ensures .rest), (b .marked, tt))))))
+    let after = c .place-in-Link .last .rows in
+    let done = c .place-in-Link .ensures in
+    let tidy = rows-tidy (links-rows b) x after (done .used) tt (subst (λ l. clashes (lines b) l ≡ false) (c .in-Link .is) (c .pre .new)) (subst (λ l. full (lines b) l ≡ false) (c .in-Link .is) (c .pre .room)) (c .place-in-Link .kept .rows) (done .rest) in
+    (b .numbered, (b .phases, (b .opened, (b .watched, (tidy, (b .marked, tt))))))
 
 pub returns-in-Order : need.returns-in-Order
 returns-in-Order c =
@@ -105,21 +106,21 @@ pub returns-in-Open : need.returns-in-Open
 returns-in-Open c =
     let b = c .args .self .now in
     let x = c .in-Open .phase in
-    put-lines b _ (Open x) (subst Within (c .in-Open .is) (c .pre .within)) (refl, tt) (refl, (refl, (refl, (refl, tt)))) (rows-put Open phase-rank opens (λ _. refl) (λ _. refl) b (b .opens) (b .opening) refl (c .place .last .rows) x (c .place .ensures .used))
+    put-lines b _ (Open x) (subst Within (c .in-Open .is) (c .pre .within)) (refl, tt) (refl, (refl, (refl, (refl, tt)))) (rows-put (opens-rows b) x (c .place .last .rows) (c .place .ensures .used))
     ∙ ap (λ m. put rank m (lines b)) (sym (c .in-Open .is))
 
 pub returns-in-Watch : need.returns-in-Watch
 returns-in-Watch c =
     let b = c .args .self .now in
     let x = c .in-Watch .w in
-    put-lines b _ (Watch x) tt (refl, (refl, tt)) (refl, (refl, (refl, tt))) (rows-put Watch watch-rank watches (λ _. refl) (λ _. refl) b (b .watches) (b .watching) refl (c .place-in-Watch .last .rows) x (c .place-in-Watch .ensures .used))
+    put-lines b _ (Watch x) tt (refl, (refl, tt)) (refl, (refl, (refl, tt))) (rows-put (watches-rows b) x (c .place-in-Watch .last .rows) (c .place-in-Watch .ensures .used))
     ∙ ap (λ m. put rank m (lines b)) (sym (c .in-Watch .is))
 
 pub returns-in-Link : need.returns-in-Link
 returns-in-Link c =
     let b = c .args .self .now in
     let x = c .in-Link .k in
-    put-lines b _ (Link x) tt (refl, (refl, (refl, tt))) (refl, (refl, tt)) (rows-put Link link-rank links (λ _. refl) (λ _. refl) b (b .links) (b .linking) refl (c .place-in-Link .last .rows) x (c .place-in-Link .ensures .used))
+    put-lines b _ (Link x) tt (refl, (refl, (refl, tt))) (refl, (refl, tt)) (rows-put (links-rows b) x (c .place-in-Link .last .rows) (c .place-in-Link .ensures .used))
     ∙ ap (λ m. put rank m (lines b)) (sym (c .in-Link .is))
 
 pub returns-in-End : need.returns-in-End

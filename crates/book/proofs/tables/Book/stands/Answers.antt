@@ -3,13 +3,13 @@ use mathlib.Core.Path.{refl, sym, ap, subst, _∙_}
 use native.Mathlib.Omega.{arith}
 use native.Mathlib.Nat.{sub-zero}
 use lib.ListN.{take}
-use Rattle.text.specs.declared.line.Line.the-variants.{Order, Notice, Open, Watch, Link, End, Bare}
+use Rattle.text.specs.declared.line.Line.the-variants.{Order, Notice}
 use Rattle.text.specs.Meaning.{Within}
 use Rattle.book.specs.Order.{among}
-use Rattle.book.specs.Ranks.{opens, watches, links, phase-rank, watch-rank, link-rank}
+use Rattle.book.specs.Ranks.{phase-rank, watch-rank, link-rank}
 use Rattle.book.specs.Lines.{lines}
 use Rattle.book.specs.Entering.{clashes}
-use Rattle.book.proofs.Entries.{rows-clash, rule-clash, end-clash, bare-clash}
+use Rattle.book.proofs.Entries.{opens-rows, watches-rows, links-rows, rows-clash, rule-clash, end-clash, bare-clash}
 use Rattle.book.proofs.tables.Book.stands.Needs as need
 
 pub returns-in-Order : need.returns-in-Order
@@ -28,22 +28,19 @@ pub returns-in-Open : need.returns-in-Open
 returns-in-Open c =
     let b = c .args .self .now in
     let x = c .in-Open .phase in
-    c .contains .ensures ∙ (λ i. among phase-rank (phase-rank x) (take (sub-zero (b .opening) i) (b .opens)))
-    ∙ sym (ap (clashes (lines b)) (c .in-Open .is) ∙ rows-clash Open phase-rank opens (λ _. refl) (λ _. refl) b (b .opens) (b .opening) refl x (subst Within (c .in-Open .is) (c .pre)))
+    c .contains .ensures ∙ (λ i. among phase-rank (phase-rank x) (take (sub-zero (b .opening) i) (b .opens))) ∙ sym (ap (clashes (lines b)) (c .in-Open .is) ∙ rows-clash (opens-rows b) x (subst Within (c .in-Open .is) (c .pre)))
 
 pub returns-in-Watch : need.returns-in-Watch
 returns-in-Watch c =
     let b = c .args .self .now in
     let x = c .in-Watch .w in
-    c .contains-in-Watch .ensures ∙ (λ i. among watch-rank (watch-rank x) (take (sub-zero (b .watching) i) (b .watches)))
-    ∙ sym (ap (clashes (lines b)) (c .in-Watch .is) ∙ rows-clash Watch watch-rank watches (λ _. refl) (λ _. refl) b (b .watches) (b .watching) refl x tt)
+    c .contains-in-Watch .ensures ∙ (λ i. among watch-rank (watch-rank x) (take (sub-zero (b .watching) i) (b .watches))) ∙ sym (ap (clashes (lines b)) (c .in-Watch .is) ∙ rows-clash (watches-rows b) x tt)
 
 pub returns-in-Link : need.returns-in-Link
 returns-in-Link c =
     let b = c .args .self .now in
     let x = c .in-Link .k in
-    c .contains-in-Link .ensures ∙ (λ i. among link-rank (link-rank x) (take (sub-zero (b .linking) i) (b .links)))
-    ∙ sym (ap (clashes (lines b)) (c .in-Link .is) ∙ rows-clash Link link-rank links (λ _. refl) (λ _. refl) b (b .links) (b .linking) refl x tt)
+    c .contains-in-Link .ensures ∙ (λ i. among link-rank (link-rank x) (take (sub-zero (b .linking) i) (b .links))) ∙ sym (ap (clashes (lines b)) (c .in-Link .is) ∙ rows-clash (links-rows b) x tt)
 
 pub returns-in-End : need.returns-in-End
 returns-in-End c =

@@ -1,0 +1,5 @@
+use Rattle.rows.proofs.Unfold.{unfolds}
+use Rattle.rows.proofs.paths_unfold.Needs as need
+
+pub returns : need.returns
+returns c = unfolds
