@@ -4,15 +4,15 @@ use mathlib.Core.Logic.{_⊎_, inl, inr, ⊎-elim}
 use mathlib.Core.List.{List}
 use Prim.Native.Nat.{ℕ, _+_, _<_, _≤_}
 use native.Mathlib.Omega.{arith}
-use lib.ListN.{length, getD, set, replicate}
+use lib.ListN.{length, getD, replicate}
 use Rattle.std.proofs.shelf.Lists.{getD-set-same, getD-set-other, getD-replicate, getD-past, length-replicate}
 use Rattle.std.proofs.shelf.Tests.{cases-lt}
 use Rattle.text.specs.declared.line.NoticeLine.{NoticeLine}
 use Rattle.text.specs.declared.line.Line.{Line}
-use Rattle.text.specs.declared.line.Line.the-variants.{Notice, Open}
-use Rattle.deduction.specs.Counting.{Different, Filled, Overfull, Outnumber}
-use Rattle.deduction.proofs.Counting.{overfull-outnumber}
-use Rattle.model.specs.Phases.{Stands, Allows, after, Opened}
+use Rattle.text.specs.declared.line.Line.the-variants.{Notice}
+use Rattle.deduction.specs.Counting.{Different}
+use Rattle.deduction.proofs.Counting.{filled-outnumber, overfull-outnumber}
+use Rattle.model.specs.Phases.{Allows, after, Opened}
 use Rattle.book.specs.declared.rule.Rule.the-variants as rule
 use Rattle.book.specs.declared.tables.Book.{Book}
 use Rattle.book.specs.Lines.{lines}
@@ -20,6 +20,8 @@ use Rattle.book.proofs.Standing.{open-stands, notice-stands, notice-at}
 use Rattle.phases.specs.declared.table.Phases.{Phases}
 use Rattle.phases.specs.declared.refusal.PhaseRefusal.{PhaseRefusal}
 use Rattle.phases.specs.Table.{phase-at, Holds, Blank, OpenedBy}
+use Rattle.phases.specs.Missing.{NoneMissing}
+use Rattle.phases.specs.Refusals.{PhasesAllowed}
 use Rattle.phases.specs.Growth.{Pushed, Added, Lacking, Found, Grown, Went, Stuck, Started, RuleFollowed, Followed, Closed}
 use Rattle.phases.proofs.Rows.{row-has, has-row}
 use Rattle.phases.proofs.Naming.{opens-few}
@@ -127,6 +129,11 @@ module _ (ls : List Line) where
     };
     blank = went .found .blank;
   }
+
+  -- then no more phases are opened than there are places
+  pub not-refused : (p : Phases) → NoneMissing ls → OpenedBy ls p → PhasesAllowed ls
+  not-refused p none by number place =
+      ⊎-elim (λ h. none place (h .1 .missing)) (λ h. let over = filled-outnumber (Opened ls) (phase-at p) (p .count) (by .filled) 32 .0 (h .3) in let few = p .places .1 in omega arith)
 
   pub found-none : (p : Phases) → p .count ≡ 0 → Blank p → Found ls p
   found-none p none blank = record { different = record { apart = λ k l lt. absurd (omega arith); each = λ k lt. absurd (omega arith) }; blank = blank }

@@ -5,12 +5,11 @@ use mathlib.Core.List.{List}
 use Prim.Native.Nat.{ℕ, _+_, _/_, _%_, _^_, _<_, _≤_}
 use native.Mathlib.Omega.{arith}
 use native.Mathlib.Nat.{div-eq-of-lt, pow-le-pow-right, lt-of-lt-of-le}
-use lib.Dec.{eqb}
-use lib.ListN.{length, getD, take}
+use lib.ListN.{length, getD}
 use Rattle.std.specs.shelf.Lists.{Has}
 use Rattle.std.specs.declared.option.Option.the-variants.{Some}
 use Rattle.std.proofs.shelf.Elements.{all-has}
-use Rattle.std.proofs.shelf.Tests.{cases-lt, cases-eq, eqb-true}
+use Rattle.std.proofs.shelf.Tests.{cases-lt, eqb-true}
 use Rattle.text.specs.declared.line.OrderLine.{OrderLine}
 use Rattle.text.specs.declared.line.NoticeLine.{NoticeLine}
 use Rattle.text.specs.declared.line.Line.{Line}
@@ -24,7 +23,7 @@ use Rattle.book.specs.Lines.{lines}
 use Rattle.book.specs.Words.{number}
 use Rattle.book.proofs.Books.{within-lines}
 use Rattle.book.proofs.Standing.{open-stands, notice-stands, order-at, notice-at, free-number, numbers-once}
-use Rattle.phases.specs.Missing.{Mentions, Names, Accepted, Missing, NoneMissing, LeastMissing, Lowered, RuleMentions, RulesMention, OpensMention}
+use Rattle.phases.specs.Missing.{Mentions, Names, Accepted, NoneMissing, LeastMissing, Lowered, RuleMentions, RulesMention, OpensMention}
 use Rattle.phases.proofs.Rows.{row-has, has-row}
 
 -- ---- the model's number of a line is the book's

@@ -1,16 +1,12 @@
 // Listing the opened phases of a book.
-ghost use mathlib.Core.Path.{_≡_};
-ghost use mathlib.Core.List.{List};
-ghost use Prim.Native.Nat.{ℕ, _<_, _≤_};
+ghost use Prim.Native.Nat.{_<_};
 ghost use Rattle.std.specs.Results.{Cases};
 ghost use Rattle.std.specs.Options.{Cases as BySome};
-ghost use Rattle.text.specs.declared.line.Line.the-variants.{Notice, Open};
-ghost use Rattle.model.specs.Phases.{Stands, Allows, after, Opened};
+ghost use Rattle.model.specs.Phases.{Opened};
 ghost use Rattle.book.specs.Lines.{lines};
 ghost use Rattle.phases.specs.Table.{Holds, FirstAt, OpenedBy};
-ghost use Rattle.phases.specs.Missing.{NoneMissing};
-ghost use Rattle.phases.specs.Refusals.{PhasesRefused, phase-number, phase-place};
-ghost use Rattle.phases.specs.Growth.{Added, Lacking, Found, Went, Stuck, RuleFollowed, Followed, Closed, Started};
+ghost use Rattle.phases.specs.Refusals.{PhasesRefused, PhasesAllowed, phase-number, phase-place};
+ghost use Rattle.phases.specs.Growth.{Added, Lacking, Found, Went, Stuck, Started, RuleFollowed, Followed, Closed};
 use crate::missing::least_missing;
 use crate::refusal::PhaseRefusal;
 use crate::sets::allowed;
@@ -122,7 +118,7 @@ fn close(book: &Book, phases: &mut Phases) -> Result<(), PhaseRefusal>
 // The opened phases of a book, which is only read.
 pub fn open_phases(book: &Book) -> Result<Phases, PhaseRefusal>
     ensures { λ r. ⌜ Cases r
-        (λ phases. NoneMissing (lines (now (book .entry))) × OpenedBy (lines (now (book .entry))) phases)
+        (λ phases. PhasesAllowed (lines (now (book .entry))) × OpenedBy (lines (now (book .entry))) phases)
         (λ e. PhasesRefused (lines (now (book .entry))) (phase-number e) (phase-place e)) ⌝ }
 {
     if let Some(number) = least_missing(book) {

@@ -1,6 +1,4 @@
 // Whether the watch holds a position.
-ghost use mathlib.Core.Path.{_≡_};
-ghost use Prim.Native.Nat.{ℕ, _<_, _≤_};
 ghost use Rattle.std.specs.Orderings.{Decides};
 ghost use Rattle.model.specs.Phases.{Opened};
 ghost use Rattle.model.specs.Moves.{at};

@@ -1,5 +1,4 @@
-use mathlib.Core.Path.{_≡_, sym, subst, _∙_}
-use mathlib.Core.List.{[], _∷_}
+use mathlib.Core.Path.{sym, subst}
 use Prim.Native.Nat.{_+_}
 use lib.ListN.{getD, drop}
 use Rattle.std.proofs.shelf.Lists.{drop-more, drop-all}

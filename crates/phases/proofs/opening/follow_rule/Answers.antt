@@ -1,11 +1,11 @@
-use mathlib.Core.Path.{_≡_, refl, sym, subst, _∙_}
+use mathlib.Core.Path.{refl, sym, subst, _∙_}
 use native.Mathlib.Omega.{arith}
 use Rattle.std.proofs.shelf.Lists.{getD-default}
 use Rattle.std.proofs.shelf.Results.{cases-weaker}
-use Rattle.model.specs.Phases.{after, Opened}
+use Rattle.model.specs.Phases.{Opened}
 use Rattle.book.specs.declared.rule.Rule.the-variants.{Free}
 use Rattle.book.specs.Lines.{lines}
-use Rattle.phases.specs.Table.{Holds}
+use Rattle.phases.specs.Growth.{Added, Lacking}
 use Rattle.phases.proofs.Listing.{went-rule, lacking-stuck, notice-opened}
 use Rattle.phases.proofs.opening.follow_rule.Needs as need
 
@@ -18,6 +18,9 @@ returns-then-allowed c =
     let lt = c .pre .place in
     let is = getD-default (b .rules) (c .args .place) Free (c .index-book-place .result) (omega arith) ∙ c .in-Notice .is in
     let yet = subst (Opened (lines b)) (sym (c .phase-after .ensures)) (notice-opened b (c .args .place) n F lt is (c .pre .opened) (c .if-allowed .ensures tt .0 refl)) in
-    cases-weaker (c .add .result) (c .add .ensures)
-    (λ _ added. went-rule b (c .args .phases .now) (c .add .last .self) F (c .args .place) n (c .phase-after .result) lt is (c .phase-after .ensures) (c .pre .found) yet added)
-    (λ e lack. lacking-stuck (lines b) (c .args .phases .now) (c .phase-after .result) e (c .pre .found) yet lack)
+    let p = c .args .phases .now in
+    let q = c .add .last .self in
+    let G = c .phase-after .result in
+    cases-weaker (c .add .result) {P = λ _. Added p G q} {Q = λ e. Lacking p G e} (c .add .ensures)
+    (λ _ added. went-rule b p q F (c .args .place) n G lt is (c .phase-after .ensures) (c .pre .found) yet added)
+    (λ e lack. lacking-stuck (lines b) p G e (c .pre .found) yet lack)

@@ -1,13 +1,11 @@
 use borrow.Author.Count.{below-more}
-use mathlib.Core.Path.{_≡_}
-use Prim.Native.Nat.{ℕ, _<_}
+use Prim.Native.Nat.{ℕ}
 use native.Mathlib.Omega.{arith}
 use lib.ListN.{getD}
 use Rattle.std.proofs.shelf.Results.{err-from-errBy}
 use Rattle.book.specs.Lines.{lines}
 use Rattle.phases.specs.Table.{Holds}
-use Rattle.phases.specs.Growth.{Started}
-use Rattle.phases.proofs.Listing.{holds-more, went-then, went-none, added-went, lacking-stuck, open-opened, started-all}
+use Rattle.phases.proofs.Listing.{holds-more, went-then, added-went, lacking-stuck, open-opened, started-all}
 use Rattle.phases.proofs.opening.start.Needs as need
 
 pub returns-in-Break-add : need.returns-in-Break-add
