@@ -7,7 +7,7 @@ ghost use Rattle.moves.specs.Moving.{wagons-fit, replaced, InFront};
 use text::line::Wagons;
 
 // Whether each byte is a wagon.
-pub fn are_wagons(lane: &[u8]) -> bool
+pub(crate) fn are_wagons(lane: &[u8]) -> bool
     ensures { λ r. ⌜ r ≡ wagons-fit (now (lane .entry)) ⌝ }
 {
     for wagon in lane {
@@ -19,7 +19,7 @@ pub fn are_wagons(lane: &[u8]) -> bool
 }
 
 // Sets these wagons down in the place of the top and gives the lane's new length; where they do not fit, changes nothing.
-pub fn set_down(buffer: &mut [u8], len: usize, wagons: Wagons) -> Option<usize>
+pub(crate) fn set_down(buffer: &mut [u8], len: usize, wagons: Wagons) -> Option<usize>
     requires { ⌜ 0 < len ⌝ ∗ ⌜ len ≤ length (now buffer) ⌝ }
     ensures { λ r. ⌜ BySome r
         ((length (now (buffer .entry)) < length (replaced wagons (take len (now (buffer .entry))))) × (now (buffer .exit) ≡ now (buffer .entry)))

@@ -66,7 +66,7 @@ fn lower_by_phase(book: &Book, least: usize, phase: u64) -> usize
 }
 
 // The least number that is named and not accepted.
-pub fn least_missing(book: &Book) -> Option<usize>
+pub(crate) fn least_missing(book: &Book) -> Option<usize>
     ensures { λ r. ⌜ BySome r (NoneMissing (lines (now (book .entry)))) (LeastMissing (lines (now (book .entry)))) ⌝ }
 {
     let mut least = NUMBERS;

@@ -58,7 +58,7 @@ fn leads(book: &Book, start: [bool; 64], wagons: &[u8]) -> bool
 }
 
 // Whether the lines of the watch take the mode and the lane.
-pub fn takes(book: &Book, mode: u8, lane: &[u8]) -> bool
+pub(crate) fn takes(book: &Book, mode: u8, lane: &[u8]) -> bool
     requires { ⌜ mode ≤ 15 ⌝ }
     ensures { λ r. ⌜ Decides r (Takes (lines (now (book .entry))) mode (now (lane .entry))) ⌝ }
 {

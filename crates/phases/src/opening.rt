@@ -10,10 +10,10 @@ ghost use Rattle.phases.specs.Growth.{Added, Lacking, Found, Went, Stuck, Star
 use crate::missing::least_missing;
 use crate::refusal::PhaseRefusal;
 use crate::sets::allowed;
-use crate::sets::phase_after;
 use crate::table::Phases;
 use book::rule::Rule;
 use book::tables::Book;
+use moves::phase::after_notice;
 
 impl Phases {
     // The place of a phase: the first, where it stands at several.
@@ -78,7 +78,7 @@ fn follow_rule(
         Rule::Free | Rule::Order(_) => Ok(()),
         Rule::Notice(notice) => {
             if allowed(&notice, phase) {
-                phases.add(phase_after(&notice, phase))
+                phases.add(after_notice(phase, &notice))
             } else {
                 Ok(())
             }

@@ -31,7 +31,7 @@ fn best_child<E: TotalOrder>(places: &[E], p: usize, n: usize) -> usize
 }
 
 // Moves the first entry down past its better children, among the first n.
-pub fn sift_down<E: TotalOrder>(places: &mut [E], n: usize)
+pub(crate) fn sift_down<E: TotalOrder>(places: &mut [E], n: usize)
     requires { ⌜ n ≤ length (now places) ⌝ }
     ensures reordered { λ _. ⌜ Reordered (now (places .entry)) (now (places .exit)) n ⌝ }
     ensures heap { λ _. ⌜ ((d : E) → HeapBelow before (at (now (places .entry)) d) 1 n → Heap before (at (now (places .exit)) d) n) ⌝ }
@@ -48,7 +48,7 @@ pub fn sift_down<E: TotalOrder>(places: &mut [E], n: usize)
 }
 
 // Moves the entry at `start` up past its worse parents.
-pub fn sift_up<E: TotalOrder>(places: &mut [E], start: usize)
+pub(crate) fn sift_up<E: TotalOrder>(places: &mut [E], start: usize)
     requires { ⌜ start < length (now places) ⌝ }
     ensures reordered { λ _. ⌜ ((n : ℕ) → start < n → n ≤ length (now (places .entry)) → Reordered (now (places .entry)) (now (places .exit)) n) ⌝ }
     ensures heap { λ _. ⌜ ((n : ℕ) (d : E) → start < n → Rising before (at (now (places .entry)) d) start n → Heap before (at (now (places .exit)) d) n) ⌝ }

@@ -17,10 +17,10 @@ returns-then-allowed c =
     let long = b .numbered .0 in
     let lt = c .pre .place in
     let is = getD-default (b .rules) (c .args .place) Free (c .index-book-place .result) (omega arith) ∙ c .in-Notice .is in
-    let yet = subst (Opened (lines b)) (sym (c .phase-after .ensures)) (notice-opened b (c .args .place) n F lt is (c .pre .opened) (c .if-allowed .ensures tt .0 refl)) in
+    let yet = subst (Opened (lines b)) (sym (c .after-notice .ensures)) (notice-opened b (c .args .place) n F lt is (c .pre .opened) (c .if-allowed .ensures tt .0 refl)) in
     let p = c .args .phases .now in
     let q = c .add .last .self in
-    let G = c .phase-after .result in
+    let G = c .after-notice .result in
     cases-weaker (c .add .result) {P = λ _. Added p G q} {Q = λ e. Lacking p G e} (c .add .ensures)
-    (λ _ added. went-rule b p q F (c .args .place) n G lt is (c .phase-after .ensures) (c .pre .found) yet added)
+    (λ _ added. went-rule b p q F (c .args .place) n G lt is (c .after-notice .ensures) (c .pre .found) yet added)
     (λ e lack. lacking-stuck (lines b) p G e (c .pre .found) yet lack)
