@@ -1,7 +1,7 @@
 -- The call makes the move of the model, and refuses only where there is none. Assumes nothing.
 use mathlib.Core.Path.{_≡_, refl, sym, ap, subst, _∙_}
 use mathlib.Core.Bool.{Bool, true, false, _&&_}
-use mathlib.Core.List.{List, [], _∷_, _++_}
+use mathlib.Core.List.{List, [], _∷_}
 use Prim.Native.Nat.{ℕ, _≤_}
 use native.Mathlib.Omega.{arith}
 use lib.Dec.{eqb, leb}
@@ -24,7 +24,7 @@ use Rattle.moves.specs.declared.refusal.MoveRefusal.the-variants.{NoPosition, 
 use Rattle.moves.specs.declared.moving.Moved.{Moved}
 use Rattle.moves.specs.Refusals.{refusal-number}
 use Rattle.moves.specs.Moving.{Handed, start, wagons-fit, is-position, number-of, in-phase, takes, carried, Told, refused, moved, text-says}
-use Rattle.moves.specs.Meaning.{Proper, MovesTo, reached, Made, Right}
+use Rattle.moves.specs.Meaning.{Proper, MovesTo, Right}
 use Rattle.moves.proofs.Steps.{Carries, step-carries, carries-step}
 
 fit-all : (w : List ℕ) → wagons-fit w ≡ true → All (λ k. k ≤ 31) w

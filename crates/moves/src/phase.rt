@@ -2,7 +2,7 @@
 ghost use mathlib.Core.Path.{_≡_};
 ghost use Prim.Native.Nat.{_^_};
 ghost use Rattle.text.specs.Phases.{has};
-ghost use Rattle.model.specs.Phases.{without, with, after};
+ghost use Rattle.model.specs.Phases.{without, after};
 use text::line::NoticeLine;
 use text::line::Number;
 

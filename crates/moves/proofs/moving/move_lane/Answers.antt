@@ -1,6 +1,6 @@
-use mathlib.Core.Path.{refl, sym, ap, subst, _∙_}
+use mathlib.Core.Path.{sym, ap, subst, _∙_}
 use Rattle.std.specs.declared.result.Result.the-variants.{Ok, Err}
-use Rattle.moves.specs.Moving.{Told, handed, text-says}
+use Rattle.moves.specs.Moving.{handed, text-says}
 use Rattle.moves.specs.Meaning.{Right}
 use Rattle.moves.proofs.Right.{text-right, text-not-five}
 use Rattle.moves.proofs.moving.move_lane.Needs as need
