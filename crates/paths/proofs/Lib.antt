@@ -1,0 +1,4 @@
+pub mod Indexes
+pub mod Offers
+pub mod Onward
+pub mod Stopping
