@@ -6,7 +6,7 @@ use mathlib.Core.List.{List, [], _∷_, _++_, map}
 use Prim.Native.Nat.{ℕ, zero, suc, _+_, _<_, _≤_}
 use native.Mathlib.Omega.{arith}
 use lib.ListN.{length, getD, take}
-use Rattle.std.specs.shelf.Lists.{All, Has, joined}
+use Rattle.std.specs.shelf.Lists.{Has, joined}
 use Rattle.std.specs.declared.option.Option.the-variants.{Some}
 use Rattle.std.proofs.shelf.Elements.{all-has, has-append-left, has-append-right}
 use Rattle.grade.specs.declared.upto.UpTo.{UpTo}
@@ -23,7 +23,7 @@ use Rattle.book.specs.declared.rule.Rule.{Rule}
 use Rattle.book.specs.declared.rule.Rule.the-variants.{Free, Order, Notice}
 use Rattle.book.specs.declared.tables.Book.{Book}
 use Rattle.book.specs.Ranks.{rules, kind, start, stop, rank}
-use Rattle.book.specs.Tables.{Along, At-number, rule-line, end-line, bare-line, by-number}
+use Rattle.book.specs.Tables.{Along, At-number, rule-line, by-number}
 use Rattle.book.specs.Lines.{lines-of, lines}
 use Rattle.book.specs.Words.{number}
 use Rattle.book.proofs.Ascent.{head-same, no-cons, has-here, has-there, has-none, has-cases}
