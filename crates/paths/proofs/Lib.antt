@@ -2,3 +2,5 @@ pub mod Indexes
 pub mod Offers
 pub mod Onward
 pub mod Stopping
+pub mod Products
+pub mod Asking

@@ -70,7 +70,7 @@ module _ {G : Type 0} {m : Ghosts G} (ls : List Line) {Fs : List ℕ} {rows : Li
 
   -- a cell that says what goes on has the best way
   pub says-way : (w : List ℕ) (s : TableState) (o : Option G) (k : ℕ) → Says m (On w s) (record { grade = o; row = k }) → BestWay m ls Fs rows n (state-of Fs s) w o
-  says-way w s None k none v way = let (l, on) = way-onward w s v way in none l v on
+  says-way w s None k none = λ v way. let (l, on) = way-onward w s v way in none l v on
   says-way w s (Some u) k c = record {
     attained = onward-way w s k u (c .offered);
     no-better = λ v way. let (l, on) = way-onward w s v way in c .no-better l v on;
@@ -123,7 +123,7 @@ module _ {G : Type 0} {m : Ghosts G} (ls : List Line) {Fs : List ℕ} {rows : Li
         )
 
     onward-says : (s : TableState) → Exists Fs s → (o : Option G) (k : ℕ) → Says m (Offers s) (record { grade = o; row = k }) → Says m (On (x ∷ w) s) (record { grade = o; row = k })
-    onward-says s exists None k none l v by = let (u, h, less) = way-offer s exists l v by in none l u h
+    onward-says s exists None k none = λ l v by. let (u, h, less) = way-offer s exists l v by in none l u h
     onward-says s exists (Some g) k c = record {
       offered = offer-way s k g (c .offered);
       no-better = λ l v by. let (u, h, less) = way-offer s exists l v by in lawful .transitive g u v (c .no-better l u h) less;

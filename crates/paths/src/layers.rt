@@ -4,7 +4,7 @@ ghost use Prim.Native.Nat.{ℕ, _+_, _*_, _<_, _≤_};
 ghost use lib.ListN.{length};
 ghost use Rattle.book.specs.Lines.{lines};
 ghost use Rattle.rowtable.specs.Tables.{Exists, state-of};
-ghost use Rattle.paths.specs.Cells.{width, Sound};
+ghost use Rattle.paths.specs.Cells.{width, cell-at, Sound};
 ghost use Rattle.paths.specs.Layers.{Opens, Layered, BestWay};
 use book::tables::Book;
 use grade::grade::Grade;
@@ -20,6 +20,7 @@ use crate::stops::last_layer;
 fn fill_layers<G: Grade>(book: &Book, phases: &[u64], rows: &[TableRow<G>], count: usize, lane: &[u8], cells: &mut [Cell<G>])
     requires few { ⌜ length (now phases) ≤ 32 ⌝ }
     requires sound { ⌜ Sound G·Grade (now phases) (now rows) count ⌝ }
+    requires short { ⌜ length (now lane) ≤ 32 ⌝ }
     requires room { ⌜ (length (now lane) + 1) * width (now phases) ≤ length (now cells) ⌝ }
     ensures { λ _. ⌜ (Opens (lines (now (book .entry))) (now (phases .entry))
         → Layered G·Grade (lines (now (book .entry))) (now (phases .entry)) (now (rows .entry)) count (now (lane .entry)) (now (cells .exit)) 0) ⌝ }
@@ -34,15 +35,23 @@ fn fill_layers<G: Grade>(book: &Book, phases: &[u64], rows: &[TableRow<G>], coun
     }
 }
 
+fn grade_at<G: Grade>(cells: &[Cell<G>], place: usize) -> Option<G>
+    requires { ⌜ place < length (now cells) ⌝ }
+    ensures { λ r. ⌜ r ≡ cell-at (now (cells .entry)) place .grade ⌝ }
+{
+    cells[place].grade
+}
+
 // The best grade that the rows say of a state and a lane, if they say of any.
 pub fn best_from<G: Grade>(book: &Book, phases: &[u64], rows: &[TableRow<G>], count: usize, start: TableState, lane: &[u8], cells: &mut [Cell<G>]) -> Option<G>
     requires few { ⌜ length (now phases) ≤ 32 ⌝ }
     requires sound { ⌜ Sound G·Grade (now phases) (now rows) count ⌝ }
     requires exists { ⌜ Exists (now phases) start ⌝ }
+    requires short { ⌜ length (now lane) ≤ 32 ⌝ }
     requires room { ⌜ (length (now lane) + 1) * width (now phases) ≤ length (now cells) ⌝ }
     ensures { λ r. ⌜ (Opens (lines (now (book .entry))) (now (phases .entry))
         → BestWay G·Grade (lines (now (book .entry))) (now (phases .entry)) (now (rows .entry)) count (state-of (now (phases .entry)) start) (now (lane .entry)) r) ⌝ }
 {
     fill_layers(book, phases, rows, count, lane, cells);
-    cells[state_index(phases, start)].grade
+    grade_at(cells, state_index(phases, start))
 }

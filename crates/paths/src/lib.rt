@@ -1,6 +1,9 @@
 // Paths over the rows of a table: the best grade that the rows tell of a lane.
+pub mod best;
 pub mod cell;
 mod layer;
 mod layers;
+pub mod refusal;
+mod start;
 mod states;
 mod stops;

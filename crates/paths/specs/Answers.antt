@@ -1,0 +1,78 @@
+-- What is told of the best path over the rows of a table, and when it is refused.
+use mathlib.Core.Path.{_≡_}
+use mathlib.Core.List.{List}
+use Prim.Native.Nat.{ℕ, _+_, _*_, _<_, _≤_}
+use lib.ListN.{length, take}
+use Rattle.std.specs.Results.{Cases}
+use Rattle.std.specs.declared.result.Result.{Result}
+use Rattle.grade.specs.declared.grade.Grade.{Ghosts}
+use Rattle.text.specs.declared.line.Line.{Line}
+use Rattle.model.specs.Moves.{Position}
+use Rattle.model.specs.Grades.{Best}
+use Rattle.rows.specs.Rows.{head}
+use Rattle.phases.specs.declared.table.Phases.{Phases}
+use Rattle.phases.specs.Table.{Holds, OpenedBy}
+use Rattle.phases.specs.Held.{Fits}
+use Rattle.rowtable.specs.declared.row.TableState.{TableState}
+use Rattle.rowtable.specs.declared.row.TableRow.{TableRow}
+use Rattle.rowtable.specs.Tables.{state-of, Exists}
+use Rattle.paths.specs.declared.refusal.PathRefusal.{PathRefusal}
+use Rattle.paths.specs.declared.refusal.PathRefusal.the-variants.{TooLarge, NotOpened, ScratchShort, ListShort, NoWay, BrokenRow}
+use Rattle.paths.specs.Cells.{width, Sound}
+use Rattle.paths.specs.Layers.{RowWay}
+
+-- the number that each refusal is told by; its place is 0
+abbrev pub path-number : PathRefusal → ℕ
+path-number TooLarge = 9
+path-number NotOpened = 10
+path-number ScratchShort = 11
+path-number ListShort = 12
+path-number NoWay = 13
+path-number BrokenRow = 14
+
+-- the phases that are in use
+abbrev pub used : Phases → List ℕ
+used p = take (p .count) (p .table)
+
+-- the places of scratch that a lane needs: a layer for each wagon and one more
+abbrev pub needed : Phases → List ℕ → ℕ
+needed p lane = (length lane + 1) * (16 * p .count + 64)
+
+-- a position that fits, in an opened phase, with scratch enough
+pub record Asked (p : Phases) (x : Position) (places : ℕ) : Type 0 where
+  pub fits : Fits (x .mode) (x .lane)
+  pub opened : Holds p (x .phase)
+  pub room : needed p (x .lane) ≤ places
+
+-- .. and the state that its path starts from
+pub record Ready (p : Phases) (x : Position) (places : ℕ) (s : TableState) : Type 0 where
+  pub asked : Asked p x places
+  pub exists : Exists (used p) s
+  pub is : state-of (used p) s ≡ head (x .mode) (x .phase)
+
+-- the first of 9, 10 and 11 that applies
+abbrev pub Unasked : Phases → Position → ℕ → PathRefusal → Type 0
+Unasked p x places TooLarge = Fits (x .mode) (x .lane) → ⊥
+Unasked p x places NotOpened = Fits (x .mode) (x .lane) × (Holds p (x .phase) → ⊥)
+Unasked p x places ScratchShort = Fits (x .mode) (x .lane) × (Holds p (x .phase) × (places < needed p (x .lane)))
+Unasked p x places ListShort = ⊥
+Unasked p x places NoWay = ⊥
+Unasked p x places BrokenRow = ⊥
+
+module _ {G : Type 0} (m : Ghosts G) (ls : List Line) (p : Phases) (rows : List (TableRow G)) (n : ℕ) (x : Position) (places : ℕ) where
+  -- what the first n rows say of the position: the grades of the accepting paths that they make
+  abbrev pub Says-of : G → Type 0
+  Says-of = RowWay m ls (used p) rows n (head (x .mode) (x .phase)) (x .lane)
+
+  -- Why no grade is told. 14: there are not n rows, or one of them names a state that does not exist; 13: they do not, and make no accepting path.
+  abbrev pub Untold : PathRefusal → Type 0
+  Untold TooLarge = Unasked p x places TooLarge
+  Untold NotOpened = Unasked p x places NotOpened
+  Untold ScratchShort = Unasked p x places ScratchShort
+  Untold ListShort = ⊥
+  Untold NoWay = Asked p x places × (Sound m (used p) rows n × (OpenedBy ls p → (v : G) → Says-of v → ⊥))
+  Untold BrokenRow = Asked p x places × (Sound m (used p) rows n → ⊥)
+
+  -- The grade that is told is the best that the rows say, where the phases are those that the lines open.
+  abbrev pub BestTold : Result G PathRefusal → Type 0
+  BestTold r = Cases r (λ v. Asked p x places × (Sound m (used p) rows n × (OpenedBy ls p → Best m Says-of v))) Untold
