@@ -5,17 +5,32 @@ use Prim.Native.Nat.{ℕ, _+_, _*_, _<_, _≤_}
 use native.Mathlib.Omega.{arith}
 use lib.ListN.{length, getD, take}
 use Rattle.std.proofs.shelf.Lists.{length-take-le, getD-take}
+use Rattle.std.specs.Results.{Cases}
+use Rattle.std.specs.declared.result.Result.{Result}
+use Rattle.std.specs.declared.result.Result.the-variants.{Ok, Err}
 use Rattle.text.specs.declared.line.Line.{Line}
 use Rattle.model.specs.Phases.{Opened}
-use Rattle.model.specs.Moves.{Position, at}
+use Rattle.grade.specs.declared.grade.Grade.{Ghosts}
+use Rattle.grade.specs.Lawful.{Lawful}
+use Rattle.model.specs.Moves.{Position, at, Move}
+use Rattle.model.specs.Watch.{Reaches}
+use Rattle.model.specs.Grades.{RunGrade, Best}
+use Rattle.rows.specs.Ways.{Saturated}
+use Rattle.rows.proofs.Graded.{saturated-best, saturated-some}
+use Rattle.std.specs.declared.option.Option.{Option}
+use Rattle.rowtable.specs.declared.row.TableState.{TableState}
+use Rattle.rowtable.specs.declared.row.TableRow.{TableRow}
+use Rattle.rowtable.specs.Tables.{state-of, Held}
 use Rattle.rows.specs.Rows.{head}
 use Rattle.phases.specs.declared.table.Phases.{Phases}
 use Rattle.phases.specs.Table.{phase-at, FirstAt, Holds, OpenedBy}
 use Rattle.phases.specs.Held.{Fits}
 use Rattle.rowtable.specs.declared.row.TableState.the-variants.{Head}
-use Rattle.paths.specs.Answers.{used, needed, Asked, Ready}
+use Rattle.paths.specs.declared.refusal.PathRefusal.{PathRefusal}
+use Rattle.paths.specs.declared.refusal.PathRefusal.the-variants.{TooLarge, NotOpened, ScratchShort, ListShort, NoWay, BrokenRow}
+use Rattle.paths.specs.Answers.{used, needed, Asked, Ready, path-number, Unasked, Untold}
 use Rattle.paths.specs.Cells.{width}
-use Rattle.paths.specs.Layers.{Opens}
+use Rattle.paths.specs.Layers.{Opens, RowWay, BestWay}
 
 module _ (p : Phases) where
   pub used-length : length (used p) ≡ p .count
@@ -47,3 +62,44 @@ module _ (p : Phases) where
         exists = (fits .mode-fits, omega arith);
         is = ap (head mode) (used-at place lt ∙ first .here);
       }
+
+  -- what is told of the start is told of the position
+  pub told-start : {G : Type 0} (m : Ghosts G) (ls : List Line) (rows : List (TableRow G)) (n : ℕ) (Fs : List ℕ) (x : Position) (places : ℕ) (s : TableState) (r : Option G) → Fs ≡ used p → Ready p x places s
+      → (Opens ls Fs → BestWay m ls Fs rows n (state-of Fs s) (x .lane) r) → OpenedBy ls p → BestWay m ls (used p) rows n (head (x .mode) (x .phase)) (x .lane) r
+  told-start m ls rows n Fs x places s r e is told opened =
+      subst (λ t. BestWay m ls (used p) rows n t (x .lane) r) (is .is)
+      (subst (λ Gs. Opens ls Gs → BestWay m ls Gs rows n (state-of Gs s) (x .lane) r) e told (opened-opens ls opened))
+
+  pub phase-opened : (ls : List Line) (F : ℕ) → OpenedBy ls p → Holds p F → Opened ls F
+  phase-opened ls F opened (k, lt, is) = subst (Opened ls) is (opened .filled .different .each k lt)
+
+  -- over the saturated rows, the best way is the best run, and without a way there is no run
+  module _ {G : Type 0} {m : Ghosts G} (lawful : Lawful m) (ls : List Line) {rows : List (TableRow G)} {n : ℕ} (x : Position) (places : ℕ) (opened : OpenedBy ls p) (asked : Asked p x places) (saturated : Saturated m ls (Held (used p) rows n)) where
+    pub best-run : (v : G) → Best m (RowWay m ls (used p) rows n (head (x .mode) (x .phase)) (x .lane)) v → Best m (RunGrade m ls x) v
+    best-run v best = saturated-best lawful saturated x (phase-opened ls (x .phase) opened (asked .opened)) v .0 best
+
+    pub no-run : ((v : G) → RowWay m ls (used p) rows n (head (x .mode) (x .phase)) (x .lane) v → ⊥) → (ms : List Move) → Reaches ls x ms → ⊥
+    no-run none ms reaches = let (v, way) = saturated-some lawful saturated x (phase-opened ls (x .phase) opened (asked .opened)) .1 (ms, reaches) in none v way
+
+-- what is refused before anything is read
+module _ {G : Type 0} (m : Ghosts G) (ls : List Line) (p : Phases) (rows : List (TableRow G)) (n : ℕ) (x : Position) (places : ℕ) where
+  pub unasked-untold : (e : PathRefusal) → Unasked p x places e → Untold m ls p rows n x places e
+  unasked-untold TooLarge why = why
+  unasked-untold NotOpened why = why
+  unasked-untold ScratchShort why = why
+  unasked-untold ListShort why = absurd why
+  unasked-untold NoWay why = absurd why
+  unasked-untold BrokenRow why = absurd why
+
+  pub unasked-early : (e : PathRefusal) → Unasked p x places e → path-number e < 12
+  unasked-early TooLarge why = omega arith
+  unasked-early NotOpened why = omega arith
+  unasked-early ScratchShort why = omega arith
+  unasked-early ListShort why = absurd why
+  unasked-early NoWay why = absurd why
+  unasked-early BrokenRow why = absurd why
+
+-- what stays as it was, whatever is told
+pub stays : {G X : Type 0} (r : Result G PathRefusal) (a b : X) → a ≡ b → Cases r (λ _. Unit {0}) (λ e. path-number e < 12 → a ≡ b)
+stays (Ok v) a b same = tt
+stays (Err e) a b same = λ lt. same

@@ -7,8 +7,9 @@ use Rattle.std.specs.Results.{Cases}
 use Rattle.std.specs.declared.result.Result.{Result}
 use Rattle.grade.specs.declared.grade.Grade.{Ghosts}
 use Rattle.text.specs.declared.line.Line.{Line}
-use Rattle.model.specs.Moves.{Position}
-use Rattle.model.specs.Grades.{Best}
+use Rattle.model.specs.Moves.{Position, Move}
+use Rattle.model.specs.Watch.{Reaches}
+use Rattle.model.specs.Grades.{RunGrade, Best}
 use Rattle.rows.specs.Rows.{head}
 use Rattle.phases.specs.declared.table.Phases.{Phases}
 use Rattle.phases.specs.Table.{Holds, OpenedBy}
@@ -76,3 +77,7 @@ module _ {G : Type 0} (m : Ghosts G) (ls : List Line) (p : Phases) (rows : List 
   -- The grade that is told is the best that the rows say, where the phases are those that the lines open.
   abbrev pub BestTold : Result G PathRefusal → Type 0
   BestTold r = Cases r (λ v. Asked p x places × (Sound m (used p) rows n × (OpenedBy ls p → Best m Says-of v))) Untold
+
+  -- Over the saturated rows with their best grades this is the truth about runs: the best grade of a run into the watch, and 13 where none leads there.
+  abbrev pub RunsTold : Result G PathRefusal → Type 0
+  RunsTold r = Cases r (Best m (RunGrade m ls x)) (λ e. path-number e ≡ 13 → (ms : List Move) → Reaches ls x ms → ⊥)

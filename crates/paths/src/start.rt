@@ -1,12 +1,19 @@
 // Where a path starts.
-ghost use Prim.Native.Nat.{_≤_};
+ghost use mathlib.Core.Path.{_≡_};
 ghost use Rattle.std.specs.Results.{Cases};
 ghost use Rattle.model.specs.Moves.{at};
-ghost use Rattle.paths.specs.Answers.{Ready, Unasked};
+ghost use Rattle.paths.specs.Answers.{used, Ready, Unasked};
 use crate::refusal::PathRefusal;
 use phases::table::Phases;
 use phases::watch::fits;
 use rowtable::row::TableState;
+
+// The phases that are in use.
+pub fn in_use(phases: &Phases) -> &[u64]
+    ensures { λ r. ⌜ now r ≡ used (now (phases .entry)) ⌝ }
+{
+    &phases.table[0..phases.count]
+}
 
 // The state of a position, where it fits, its phase is opened, and so many places are enough.
 pub fn start_state(phases: &Phases, mode: u8, phase: u64, lane: &[u8], places: usize) -> Result<TableState, PathRefusal>
