@@ -15,8 +15,9 @@ use Rattle.rowtable.specs.declared.row.TableState.{TableState}
 use Rattle.rowtable.specs.declared.row.TableRow.{TableRow}
 use Rattle.rowtable.specs.Tables.{Exists}
 use Rattle.paths.specs.declared.cell.Cell.{Cell}
-use Rattle.paths.specs.Cells.{width, index, cell-at, Says, Layer, Via, SameFrom, Sound}
+use Rattle.paths.specs.Cells.{width, index, cell-at, Says, Layer, Via, SameFrom, Sound, Linked}
 use Rattle.paths.specs.Layers.{Opens, Stopping, Onward, Layered}
+use Rattle.paths.proofs.Offers.{layer-same, linked-same}
 use Rattle.paths.proofs.Onward.{filled-onward}
 
 pub next-layer : (k w : ℕ) → (k + 1) * w ≡ k * w + w
@@ -43,6 +44,17 @@ module _ {G : Type 0} (m : Ghosts G) (ls : List Line) (Fs : List ℕ) (rows : Li
       (subst (λ b. Says m (Stopping m ls Fs s) (cell-at cells (b + index Fs s))) (is ∙ ap (λ k. k * width Fs) e) (layer s exists))
 
   -- one layer more
+  pub linked-more : (old new : List (Cell G)) (k base : ℕ) → 0 < k → k ≤ length lane → base ≡ (k - 1) * width Fs → Layer m Fs new base (Via m Fs rows n (getD lane (k - 1) 0) old (base + width Fs))
+      → SameFrom (base + width Fs) old new → Linked m Fs rows n old (drop k lane) (k * width Fs) → Linked m Fs rows n new (drop (k - 1) lane) ((k - 1) * width Fs)
+  linked-more old new k base some few is filled same linked =
+      let f : k - 1 + 1 ≡ k = omega arith in
+      let edge : base + width Fs ≡ k * width Fs = ap (λ b. b + width Fs) is ∙ layer-before k (width Fs) some in
+      subst (λ w. Linked m Fs rows n new w ((k - 1) * width Fs)) (sym (drop-more lane (k - 1) 0 (omega arith) ∙ ap (λ j. getD lane (k - 1) 0 ∷ drop j lane) f))
+      (subst (Linked m Fs rows n new (getD lane (k - 1) 0 ∷ drop k lane)) is (
+        layer-same m Fs rows n (getD lane (k - 1) 0) new old new base (base + width Fs) (λ j le. sym (same j le)) filled,
+        linked-same m Fs rows n old new (drop k lane) (base + width Fs) same (subst (Linked m Fs rows n old (drop k lane)) (sym edge) linked),
+      ))
+
   pub layered-more : Lawful m → Opens ls Fs → Sound m Fs rows n → (old new : List (Cell G)) (k base : ℕ) → 0 < k → k ≤ length lane → base ≡ (k - 1) * width Fs
       → Layer m Fs new base (Via m Fs rows n (getD lane (k - 1) 0) old (base + width Fs)) → SameFrom (base + width Fs) old new
       → Layered m ls Fs rows n lane old k → Layered m ls Fs rows n lane new (k - 1)

@@ -1,10 +1,10 @@
 -- Cells: the best that is known of a state with the wagons that are left, kept in layers over a lent table.
 use mathlib.Core.Path.{_≡_}
 use mathlib.Core.Bool.{Bool, false, cond}
-use mathlib.Core.List.{List}
+use mathlib.Core.List.{List, [], _∷_, reverse}
 use Prim.Native.Nat.{ℕ, _+_, _*_, _<_, _≤_}
 use lib.Dec.{T, eqb}
-use lib.ListN.{length, getD, set}
+use lib.ListN.{length, getD, set, take}
 use Rattle.std.specs.Options.{Cases as BySome}
 use Rattle.std.specs.declared.option.Option.{Option}
 use Rattle.std.specs.declared.option.Option.the-variants.{Some, None}
@@ -74,6 +74,24 @@ module _ {G : Type 0} (m : Ghosts G) where
   abbrev pub brought : List ℕ → List (Cell G) → ℕ → ℕ → ℕ → TableRow G → List (Cell G)
   brought Fs cells base x k r =
       cond (eqb (r .wagon) x) (brought-by (cell-at cells (base + width Fs + index Fs (r .to)) .grade) cells (base + index Fs (r .from)) k (r .grade)) cells
+
+module _ {G : Type 0} (m : Ghosts G) (Fs : List ℕ) (rows : List (TableRow G)) (n : ℕ) (cells : List (Cell G)) where
+  -- the layers of these wagons, from this place on: each comes from the one behind it
+  abbrev pub Linked : List ℕ → ℕ → Type 0
+  Linked [] base = Unit {0}
+  Linked (x ∷ w) base = Layer m Fs cells base (Via m Fs rows n x cells (base + width Fs)) × Linked w (base + width Fs)
+
+  -- The rows at these places lead from a state by the wagons, through cells from layer to layer, and give its cell the grade v.
+  pub data Trail : ℕ → TableState → List ℕ → List ℕ → G → Type 0 where
+    trail-end : {base : ℕ} {s : TableState} {v : G} → cell-at cells (base + index Fs s) .grade ≡ Some v → Trail base s [] [] v
+    trail-on : {base : ℕ} {s : TableState} {x : ℕ} {w : List ℕ} {k : ℕ} {ks : List ℕ} {rest v : G} → k < n → row-at m rows k .from ≡ s → row-at m rows k .wagon ≡ x
+        → Trail (base + width Fs) (row-at m rows k .to) w ks rest → m .join (row-at m rows k .grade) rest ≡ v → Trail base s (x ∷ w) (k ∷ ks) v
+
+  -- the first places of a list, as a stack, are such a trail, of the grade that the cell has
+  pub record Laid (base : ℕ) (s : TableState) (w : List ℕ) (list : List ℕ) : Type 0 where
+    pub grade : G
+    pub has : cell-at cells (base + index Fs s) .grade ≡ Some grade
+    pub trail : Trail base s w (reverse (take (length w) list)) grade
 
 -- from this place on both have the same
 abbrev pub SameFrom : {G : Type 0} → ℕ → List (Cell G) → List (Cell G) → Type 0

@@ -53,3 +53,10 @@ module _ {G : Type 0} (m : Ghosts G) (ls : List Line) (Fs : List ℕ) (rows : Li
   -- the layers from a place of the lane on: each has the best of what the rows say of the wagons from there
   abbrev pub Layered : List ℕ → List (Cell G) → ℕ → Type 0
   Layered lane cells place = (q : ℕ) → place ≤ q → q ≤ length lane → Layer m Fs cells (q * width Fs) (Onward (drop q lane))
+
+-- Rows at these places of a table, the first first, lead from a state by the wagons to where a path may end, and their grades joined in order are v.
+module _ {G : Type 0} (m : Ghosts G) (ls : List Line) (Fs : List ℕ) (rows : List (TableRow G)) (n : ℕ) where
+  pub data PathOf : State → List ℕ → List ℕ → G → Type 0 where
+    path-end : {s : State} → Stop ls s → PathOf s [] [] (m .best)
+    path-on : {s t : State} {x : ℕ} {w : List ℕ} {k : ℕ} {ks : List ℕ} {rest : G} → k < n → row-of Fs (row-at m rows k) ≡ row s (wagon x) t
+        → PathOf t w ks rest → PathOf s (x ∷ w) (k ∷ ks) (m .join (row-at m rows k .grade) rest)

@@ -4,7 +4,7 @@ ghost use Prim.Native.Nat.{ℕ, _+_, _*_, _<_, _≤_};
 ghost use lib.ListN.{length};
 ghost use Rattle.book.specs.Lines.{lines};
 ghost use Rattle.rowtable.specs.Tables.{Exists, state-of};
-ghost use Rattle.paths.specs.Cells.{width, cell-at, Sound};
+ghost use Rattle.paths.specs.Cells.{width, cell-at, Sound, Linked};
 ghost use Rattle.paths.specs.Layers.{Opens, Layered, BestWay};
 use book::tables::Book;
 use grade::grade::Grade;
@@ -17,12 +17,13 @@ use crate::states::layer_width;
 use crate::states::state_index;
 use crate::stops::last_layer;
 
-fn fill_layers<G: Grade>(book: &Book, phases: &[u64], rows: &[TableRow<G>], count: usize, lane: &[u8], cells: &mut [Cell<G>])
+pub fn fill_layers<G: Grade>(book: &Book, phases: &[u64], rows: &[TableRow<G>], count: usize, lane: &[u8], cells: &mut [Cell<G>])
     requires few { ⌜ length (now phases) ≤ 32 ⌝ }
     requires sound { ⌜ Sound G·Grade (now phases) (now rows) count ⌝ }
     requires short { ⌜ length (now lane) ≤ 32 ⌝ }
     requires room { ⌜ (length (now lane) + 1) * width (now phases) ≤ length (now cells) ⌝ }
-    ensures { λ _. ⌜ (Opens (lines (now (book .entry))) (now (phases .entry))
+    ensures linked { λ _. ⌜ Linked G·Grade (now (phases .entry)) (now (rows .entry)) count (now (cells .exit)) (now (lane .entry)) 0 ⌝ }
+    ensures layered { λ _. ⌜ (Opens (lines (now (book .entry))) (now (phases .entry))
         → Layered G·Grade (lines (now (book .entry))) (now (phases .entry)) (now (rows .entry)) count (now (lane .entry)) (now (cells .exit)) 0) ⌝ }
 {
     lawful::<G>();
@@ -35,7 +36,7 @@ fn fill_layers<G: Grade>(book: &Book, phases: &[u64], rows: &[TableRow<G>], coun
     }
 }
 
-fn grade_at<G: Grade>(cells: &[Cell<G>], place: usize) -> Option<G>
+pub fn grade_at<G: Grade>(cells: &[Cell<G>], place: usize) -> Option<G>
     requires { ⌜ place < length (now cells) ⌝ }
     ensures { λ r. ⌜ r ≡ cell-at (now (cells .entry)) place .grade ⌝ }
 {

@@ -25,7 +25,7 @@ returns g c opens =
     let Fs = c .args .phases .now in
     let cells = c .fill-layers .last .cells in
     let start = c .args .start in
-    let says = c .fill-layers .ensures opens 0 (omega arith) (omega arith) start (c .pre .exists) in
+    let says = c .fill-layers .ensures .layered opens 0 (omega arith) (omega arith) start (c .pre .exists) in
     let place : 0 * width Fs + index Fs start ≡ c .state-index .result = let e = zero-mul (width Fs) in let f = c .state-index .ensures .is in omega arith in
     let cell = cell-at cells (0 * width Fs + index Fs start) in
     let told = says-way (lines (c .args .book .now)) (c .pre .sound) (c .args .lane .now) start (cell .grade) (cell .row) says in
