@@ -4,3 +4,4 @@ pub mod Onward
 pub mod Stopping
 pub mod Products
 pub mod Asking
+pub mod Laying
