@@ -17,20 +17,19 @@ use Rattle.model.specs.Watch.{Reaches}
 use Rattle.model.specs.Grades.{RunGrade, Best}
 use Rattle.rows.specs.Ways.{Saturated}
 use Rattle.rows.proofs.Graded.{saturated-best, saturated-some}
-use Rattle.std.specs.declared.option.Option.{Option}
 use Rattle.rowtable.specs.declared.row.TableState.{TableState}
 use Rattle.rowtable.specs.declared.row.TableRow.{TableRow}
 use Rattle.rowtable.specs.Tables.{state-of, Held}
-use Rattle.rows.specs.Rows.{head}
+use Rattle.rows.specs.Rows.{State, head}
 use Rattle.phases.specs.declared.table.Phases.{Phases}
 use Rattle.phases.specs.Table.{phase-at, FirstAt, Holds, OpenedBy}
 use Rattle.phases.specs.Held.{Fits}
 use Rattle.rowtable.specs.declared.row.TableState.the-variants.{Head}
 use Rattle.paths.specs.declared.refusal.PathRefusal.{PathRefusal}
 use Rattle.paths.specs.declared.refusal.PathRefusal.the-variants.{TooLarge, NotOpened, ScratchShort, ListShort, NoWay, BrokenRow}
-use Rattle.paths.specs.Answers.{used, needed, Asked, Ready, path-number, Unasked, Untold}
+use Rattle.paths.specs.Answers.{used, needed, Asked, Ready, path-number, Unasked, Untold, Unlaid}
 use Rattle.paths.specs.Cells.{width}
-use Rattle.paths.specs.Layers.{Opens, RowWay, BestWay}
+use Rattle.paths.specs.Layers.{Opens, RowWay}
 
 module _ (p : Phases) where
   pub used-length : length (used p) ≡ p .count
@@ -63,12 +62,10 @@ module _ (p : Phases) where
         is = ap (head mode) (used-at place lt ∙ first .here);
       }
 
-  -- what is told of the start is told of the position
-  pub told-start : {G : Type 0} (m : Ghosts G) (ls : List Line) (rows : List (TableRow G)) (n : ℕ) (Fs : List ℕ) (x : Position) (places : ℕ) (s : TableState) (r : Option G) → Fs ≡ used p → Ready p x places s
-      → (Opens ls Fs → BestWay m ls Fs rows n (state-of Fs s) (x .lane) r) → OpenedBy ls p → BestWay m ls (used p) rows n (head (x .mode) (x .phase)) (x .lane) r
-  told-start m ls rows n Fs x places s r e is told opened =
-      subst (λ t. BestWay m ls (used p) rows n t (x .lane) r) (is .is)
-      (subst (λ Gs. Opens ls Gs → BestWay m ls Gs rows n (state-of Gs s) (x .lane) r) e told (opened-opens ls opened))
+  -- what holds at the start holds at the position
+  pub at-start : (ls : List Line) (P : List ℕ → State → Type 0) (Fs : List ℕ) (x : Position) (places : ℕ) (s : TableState) → Fs ≡ used p → Ready p x places s → (Opens ls Fs → P Fs (state-of Fs s)) → OpenedBy ls p
+      → P (used p) (head (x .mode) (x .phase))
+  at-start ls P Fs x places s e is told opened = subst (P (used p)) (is .is) (subst (λ Gs. Opens ls Gs → P Gs (state-of Gs s)) e told (opened-opens ls opened))
 
   pub phase-opened : (ls : List Line) (F : ℕ) → OpenedBy ls p → Holds p F → Opened ls F
   phase-opened ls F opened (k, lt, is) = subst (Opened ls) is (opened .filled .different .each k lt)
@@ -91,6 +88,14 @@ module _ {G : Type 0} (m : Ghosts G) (ls : List Line) (p : Phases) (rows : List 
   unasked-untold NoWay why = absurd why
   unasked-untold BrokenRow why = absurd why
 
+  pub unasked-unlaid : (listed : ℕ) (e : PathRefusal) → Unasked p x places e → Unlaid m ls p rows n x places listed e
+  unasked-unlaid listed TooLarge why = why
+  unasked-unlaid listed NotOpened why = why
+  unasked-unlaid listed ScratchShort why = why
+  unasked-unlaid listed ListShort why = absurd why
+  unasked-unlaid listed NoWay why = absurd why
+  unasked-unlaid listed BrokenRow why = absurd why
+
   pub unasked-early : (e : PathRefusal) → Unasked p x places e → path-number e < 12
   unasked-early TooLarge why = omega arith
   unasked-early NotOpened why = omega arith
@@ -100,6 +105,6 @@ module _ {G : Type 0} (m : Ghosts G) (ls : List Line) (p : Phases) (rows : List 
   unasked-early BrokenRow why = absurd why
 
 -- what stays as it was, whatever is told
-pub stays : {G X : Type 0} (r : Result G PathRefusal) (a b : X) → a ≡ b → Cases r (λ _. Unit {0}) (λ e. path-number e < 12 → a ≡ b)
-stays (Ok v) a b same = tt
-stays (Err e) a b same = λ lt. same
+pub stays : {G X : Type 0} (n : ℕ) (r : Result G PathRefusal) (a b : X) → a ≡ b → Cases r (λ _. Unit {0}) (λ e. path-number e < n → a ≡ b)
+stays n (Ok v) a b same = tt
+stays n (Err e) a b same = λ lt. same

@@ -58,10 +58,9 @@ module _ {G : Type 0} (m : Ghosts G) where
   pub linked-same : (Fs : List ℕ) (rows : List (TableRow G)) (n : ℕ) (old new : List (Cell G)) (w : List ℕ) (base : ℕ) → SameFrom base old new → Linked m Fs rows n old w base → Linked m Fs rows n new w base
   linked-same Fs rows n old new [] base same linked = tt
   linked-same Fs rows n old new (x ∷ w) base same (layer, more) =
-      let behind : SameFrom (base + width Fs) old new = λ k le. same k (omega arith) in
-      (
+      let behind : SameFrom (base + width Fs) old new = λ k le. same k (omega arith) in (
         layer-same Fs rows n x new old new base (base + width Fs) (λ k le. sym (behind k le))
-        (λ s exists. subst (Says m (Via m Fs rows n x old (base + width Fs) s)) (sym (same (base + index Fs s) (omega arith))) (layer s exists)),
+            (λ s exists. subst (Says m (Via m Fs rows n x old (base + width Fs) s)) (sym (same (base + index Fs s) (omega arith))) (layer s exists)),
         linked-same Fs rows n old new w (base + width Fs) behind more,
       )
 
@@ -163,7 +162,7 @@ module _ {G : Type 0} {m : Ghosts G} (lawful : Lawful m) where
         λ s exists. ⊎-elim
             (λ e. let is = same-index Fs (r .from) s from-exists exists (sym e) in subst (λ t. Says m (Offers (k + 1) t) (cell-at after (base + index Fs t))) is chosen)
             (λ ne. subst (Says m (Offers (k + 1) s)) (sym (other (base + index Fs s) (λ e. ne (omega arith))))
-                (keep s (cell-at cells (base + index Fs s)) (λ u h. ne (ap (index Fs) (sym (h .from)))) (layer s exists)))
+            (keep s (cell-at cells (base + index Fs s)) (λ u h. ne (ap (index Fs) (sym (h .from)))) (layer s exists)))
             (cases-eq (index Fs s) (index Fs (r .from))),
         λ j le. let lt = place-low in other j (λ e. omega arith) ∙ same j le,
       )

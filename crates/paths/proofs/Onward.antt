@@ -58,15 +58,17 @@ module _ {G : Type 0} {m : Ghosts G} (ls : List Line) {Fs : List ℕ} {rows : Li
   way-onward [] s v way = (0, way-none .0 way)
   way-onward (x ∷ w) s v way =
       let f = way-more .0 way in
-      let k = f .has .place in
-      (k, record {
-        below = f .has .below;
-        to = f .mid;
-        is = f .has .is (blank-row (m .best));
-        rest = f .rest;
-        way = f .way;
-        joins = ap (λ g. m .join g (f .rest)) (f .has .graded (blank-row (m .best))) ∙ f .joins;
-      })
+      let k = f .has .place in (
+        k,
+        record {
+          below = f .has .below;
+          to = f .mid;
+          is = f .has .is (blank-row (m .best));
+          rest = f .rest;
+          way = f .way;
+          joins = ap (λ g. m .join g (f .rest)) (f .has .graded (blank-row (m .best))) ∙ f .joins;
+        },
+      )
 
   -- a cell that says what goes on has the best way
   pub says-way : (w : List ℕ) (s : TableState) (o : Option G) (k : ℕ) → Says m (On w s) (record { grade = o; row = k }) → BestWay m ls Fs rows n (state-of Fs s) w o

@@ -37,8 +37,7 @@ module _ (b : Book) where
     head-decides lt (Node t) exists is = absurd (omega arith)
     head-decides lt (Head p i) exists is =
         let low = exists .0 in
-        let e : p ≡ k % 16 = omega arith in
-        (
+        let e : p ≡ k % 16 = omega arith in (
           λ mark. bare-stops p (getD Fs i 0) low (opens .each i (exists .1)) (subst (λ q. getD (b .bares) q false ≡ true) (sym e) mark),
           λ stop. subst (λ q. getD (b .bares) q false ≡ true) e (stop-bare stop),
         )
@@ -46,8 +45,7 @@ module _ (b : Book) where
     pub node-decides : 16 * length Fs ≤ k → (s : TableState) → Exists Fs s → index Fs s ≡ k → Decides (getD (b .ends) (k - 16 * length Fs) false) (Stop (lines b) (state-of Fs s))
     node-decides le (Head p i) exists is = let low = exists .0 in let few = exists .1 in absurd (omega arith)
     node-decides le (Node t) exists is =
-        let e : t ≡ k - 16 * length Fs = omega arith in
-        (
+        let e : t ≡ k - 16 * length Fs = omega arith in (
           λ mark. end-stops t exists (subst (λ q. getD (b .ends) q false ≡ true) (sym e) mark),
           λ stop. subst (λ q. getD (b .ends) q false ≡ true) e (stop-end stop),
         )

@@ -1,6 +1,6 @@
 -- What is told of the best path over the rows of a table, and when it is refused.
 use mathlib.Core.Path.{_≡_}
-use mathlib.Core.List.{List}
+use mathlib.Core.List.{List, reverse}
 use Prim.Native.Nat.{ℕ, _+_, _*_, _<_, _≤_}
 use lib.ListN.{length, take}
 use Rattle.std.specs.Results.{Cases}
@@ -20,7 +20,7 @@ use Rattle.rowtable.specs.Tables.{state-of, Exists}
 use Rattle.paths.specs.declared.refusal.PathRefusal.{PathRefusal}
 use Rattle.paths.specs.declared.refusal.PathRefusal.the-variants.{TooLarge, NotOpened, ScratchShort, ListShort, NoWay, BrokenRow}
 use Rattle.paths.specs.Cells.{width, Sound}
-use Rattle.paths.specs.Layers.{RowWay}
+use Rattle.paths.specs.Layers.{RowWay, PathOf}
 
 -- the number that each refusal is told by; its place is 0
 abbrev pub path-number : PathRefusal → ℕ
@@ -81,3 +81,20 @@ module _ {G : Type 0} (m : Ghosts G) (ls : List Line) (p : Phases) (rows : List 
   -- Over the saturated rows with their best grades this is the truth about runs: the best grade of a run into the watch, and 13 where none leads there.
   abbrev pub RunsTold : Result G PathRefusal → Type 0
   RunsTold r = Cases r (Best m (RunGrade m ls x)) (λ e. path-number e ≡ 13 → (ms : List Move) → Reaches ls x ms → ⊥)
+
+  -- Laying a path out needs a list of as many places as wagons and rows. Why it is not laid out:
+  abbrev pub Unlaid : ℕ → PathRefusal → Type 0
+  Unlaid listed TooLarge = Unasked p x places TooLarge
+  Unlaid listed NotOpened = Unasked p x places NotOpened
+  Unlaid listed ScratchShort = Unasked p x places ScratchShort
+  Unlaid listed ListShort = Asked p x places × (listed < length (x .lane) + n)
+  Unlaid listed NoWay = (length (x .lane) + n ≤ listed) × Untold NoWay
+  Unlaid listed BrokenRow = (length (x .lane) + n ≤ listed) × Untold BrokenRow
+
+  -- The list then holds, as a stack with a place for each wagon, the rows of a path of the grade that is told, which is the best. Any such path may be laid out.
+  pub record PathLaid (list : List ℕ) (v : G) : Type 0 where
+    pub path : PathOf m ls (used p) rows n (head (x .mode) (x .phase)) (x .lane) (reverse (take (length (x .lane)) list)) v
+    pub best : Best m Says-of v
+
+  abbrev pub LaidTold : List ℕ → Result G PathRefusal → Type 0
+  LaidTold list r = Cases r (λ v. Asked p x places × ((length (x .lane) + n ≤ length list) × (Sound m (used p) rows n × (OpenedBy ls p → PathLaid list v)))) (Unlaid (length list))

@@ -6,12 +6,12 @@ ghost use lib.ListN.{length, getD, set};
 ghost use Rattle.std.specs.declared.option.Option.the-variants.{Some, None};
 ghost use Rattle.rowtable.specs.Tables.{Exists};
 ghost use Rattle.paths.specs.Cells.{width, index, no-cell, cell-at, keeps as keeps-its, bettered, brought, Layer, Via, SameFrom, Sound};
-use grade::grade::Grade;
-use grade::theorems::lawful;
-use rowtable::row::TableRow;
 use crate::cell::Cell;
 use crate::states::layer_width;
 use crate::states::state_index;
+use grade::grade::Grade;
+use grade::theorems::lawful;
+use rowtable::row::TableRow;
 
 // Leaves the cells from a place up to another with nothing known.
 fn clear<G: Grade>(cells: &mut [Cell<G>], from: usize, until: usize)
@@ -52,7 +52,14 @@ fn offer<G: Grade>(cells: &mut [Cell<G>], place: usize, grade: G, row: usize)
 }
 
 // Brings in one row, if it goes by the wagon: joined with what is known where it leads.
-fn bring_row<G: Grade>(phases: &[u64], row: TableRow<G>, place: usize, wagon: u8, cells: &mut [Cell<G>], base: usize)
+fn bring_row<G: Grade>(
+    phases: &[u64],
+    row: TableRow<G>,
+    place: usize,
+    wagon: u8,
+    cells: &mut [Cell<G>],
+    base: usize,
+)
     requires few { ⌜ length (now phases) ≤ 32 ⌝ }
     requires exists { ⌜ Exists (now phases) (row .from) × Exists (now phases) (row .to) ⌝ }
     requires room { ⌜ base + width (now phases) + width (now phases) ≤ length (now cells) ⌝ }
@@ -64,12 +71,24 @@ fn bring_row<G: Grade>(phases: &[u64], row: TableRow<G>, place: usize, wagon: u8
     let behind = base + layer_width(phases);
     let known = cells[behind + state_index(phases, row.to)].grade;
     if let Some(rest) = known {
-        offer(cells, base + state_index(phases, row.from), row.grade.joined(rest), place);
+        offer(
+            cells,
+            base + state_index(phases, row.from),
+            row.grade.joined(rest),
+            place,
+        );
     }
 }
 
 // Brings in all rows, into a layer of which nothing is known.
-fn bring_rows<G: Grade>(phases: &[u64], rows: &[TableRow<G>], count: usize, wagon: u8, cells: &mut [Cell<G>], base: usize)
+fn bring_rows<G: Grade>(
+    phases: &[u64],
+    rows: &[TableRow<G>],
+    count: usize,
+    wagon: u8,
+    cells: &mut [Cell<G>],
+    base: usize,
+)
     requires few { ⌜ length (now phases) ≤ 32 ⌝ }
     requires sound { ⌜ Sound G·Grade (now phases) (now rows) count ⌝ }
     requires room { ⌜ base + width (now phases) + width (now phases) ≤ length (now cells) ⌝ }
@@ -85,7 +104,14 @@ fn bring_rows<G: Grade>(phases: &[u64], rows: &[TableRow<G>], count: usize, wago
 }
 
 // The layer at `base`, from the one behind it.
-pub fn fill_layer<G: Grade>(phases: &[u64], rows: &[TableRow<G>], count: usize, wagon: u8, cells: &mut [Cell<G>], base: usize)
+pub fn fill_layer<G: Grade>(
+    phases: &[u64],
+    rows: &[TableRow<G>],
+    count: usize,
+    wagon: u8,
+    cells: &mut [Cell<G>],
+    base: usize,
+)
     requires few { ⌜ length (now phases) ≤ 32 ⌝ }
     requires sound { ⌜ Sound G·Grade (now phases) (now rows) count ⌝ }
     requires room { ⌜ base + width (now phases) + width (now phases) ≤ length (now cells) ⌝ }

@@ -1,6 +1,7 @@
 // Paths over the rows of a table: the best grade that the rows tell of a lane.
 pub mod best;
 pub mod cell;
+pub mod laid;
 mod lay;
 mod layer;
 mod layers;

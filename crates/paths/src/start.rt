@@ -16,7 +16,13 @@ pub fn in_use(phases: &Phases) -> &[u64]
 }
 
 // The state of a position, where it fits, its phase is opened, and so many places are enough.
-pub fn start_state(phases: &Phases, mode: u8, phase: u64, lane: &[u8], places: usize) -> Result<TableState, PathRefusal>
+pub fn start_state(
+    phases: &Phases,
+    mode: u8,
+    phase: u64,
+    lane: &[u8],
+    places: usize,
+) -> Result<TableState, PathRefusal>
     ensures { λ r. ⌜ Cases r (Ready (now (phases .entry)) (at mode phase (now (lane .entry))) places) (Unasked (now (phases .entry)) (at mode phase (now (lane .entry))) places) ⌝ }
 {
     if !fits(mode, lane) {

@@ -9,11 +9,11 @@ ghost use Rattle.rowtable.specs.declared.row.TableState.{TableState as Place};
 ghost use Rattle.rowtable.specs.Tables.{Exists, state-of};
 ghost use Rattle.paths.specs.Cells.{width, index, Says, Layer};
 ghost use Rattle.paths.specs.Layers.{Opens, Stopping};
+use crate::cell::Cell;
+use crate::states::layer_width;
 use book::tables::Book;
 use grade::grade::Grade;
 use grade::theorems::lawful;
-use crate::cell::Cell;
-use crate::states::layer_width;
 
 // Whether a path may end at the state with this number.
 fn stops(book: &Book, phases: &[u64], number: usize) -> bool

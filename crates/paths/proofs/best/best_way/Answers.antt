@@ -11,7 +11,8 @@ use Rattle.phases.specs.Table.{OpenedBy}
 use Rattle.rowtable.specs.Tables.{Exists}
 use Rattle.paths.specs.Answers.{used, Asked, Unasked, BestTold, RunsTold}
 use Rattle.paths.specs.Cells.{width, Sound}
-use Rattle.paths.proofs.Asking.{used-few, needed-width, told-start, best-run, no-run, unasked-untold, unasked-early, stays}
+use Rattle.paths.specs.Layers.{BestWay}
+use Rattle.paths.proofs.Asking.{used-few, needed-width, at-start, best-run, no-run, unasked-untold, unasked-early, stays}
 use Rattle.paths.proofs.best.best_way.Needs as need
 
 pub returns-then-not-rows-sound : need.returns-then-not-rows-sound
@@ -49,7 +50,7 @@ returns-in-Some g c =
     let e = c .in-use-opened .ensures in
     let ready = c .in-Continue-start .ensures tt in
     let x = at (c .args .mode) (c .args .phase) (c .args .lane .now) in
-    let told = told-start p m ls (c .args .rows .now) (c .args .count) (c .in-use-opened .result .now) x (length (c .args .scratch .now)) (c .in-Continue-start .start) (Some (c .in-Some .grade)) e ready (c .in-Some .ensures tt) in
+    let told = at-start p ls (λ Fs t. BestWay m ls Fs (c .args .rows .now) (c .args .count) t (c .args .lane .now) (Some (c .in-Some .grade))) (c .in-use-opened .result .now) x (length (c .args .scratch .now)) (c .in-Continue-start .start) e ready (c .in-Some .ensures tt .told) in
     record {
       told = (ready .asked, (subst (λ Fs. Sound m Fs (c .args .rows .now) (c .args .count)) e (c .rows-sound .ensures .0 (c .if-not-rows-sound .left)), told));
       runs = λ opened saturated. best-run p (c .lawful .ensures) ls x (length (c .args .scratch .now)) opened (ready .asked) saturated (c .in-Some .grade) (told opened);
@@ -64,7 +65,7 @@ returns-in-None g c =
     let e = c .in-use-opened .ensures in
     let ready = c .in-Continue-start .ensures tt in
     let x = at (c .args .mode) (c .args .phase) (c .args .lane .now) in
-    let told = told-start p m ls (c .args .rows .now) (c .args .count) (c .in-use-opened .result .now) x (length (c .args .scratch .now)) (c .in-Continue-start .start) None e ready (c .in-None .ensures tt) in
+    let told = at-start p ls (λ Fs t. BestWay m ls Fs (c .args .rows .now) (c .args .count) t (c .args .lane .now) None) (c .in-use-opened .result .now) x (length (c .args .scratch .now)) (c .in-Continue-start .start) e ready (c .in-None .ensures tt .told) in
     record {
       told = (ready .asked, (subst (λ Fs. Sound m Fs (c .args .rows .now) (c .args .count)) e (c .rows-sound .ensures .0 (c .if-not-rows-sound .left)), told));
       runs = λ opened saturated same. no-run p (c .lawful .ensures) ls x (length (c .args .scratch .now)) opened (ready .asked) saturated (told opened);
@@ -85,5 +86,5 @@ returns-in-Break-start g c =
     record {
       told = subst (BestTold m ls p rows n x places) (sym is) (unasked-untold m ls p rows n x places e why);
       runs = λ opened saturated. subst (RunsTold m ls p rows n x places) (sym is) (λ thirteen. let early = unasked-early m ls p rows n x places e why in absurd (omega arith));
-      kept = stays (c .from-residual .result) _ _ refl;
+      kept = stays 12 (c .from-residual .result) _ _ refl;
     }

@@ -37,7 +37,7 @@ other-end-state-requires g c κs =
     let below = walk-below (c .pre .sound) (c .loop-at .inv) (c .loop-at-test .taken) in
     let enough = c .pre .sound .enough in
     let is : c .row-of-cell-place .result ≡ cell-at (c .args .cells .now) (c .loop-at .base + index (c .args .phases .now) (c .loop-at .state)) .row =
-        c .row-of-cell-place .ensures ∙ ap (λ j. cell-at (c .args .cells .now) (c .loop-at .base + j) .row) (c .state-index .ensures .is) in
+    c .row-of-cell-place .ensures ∙ ap (λ j. cell-at (c .args .cells .now) (c .loop-at .base + j) .row) (c .state-index .ensures .is) in
     omega arith
 
 pub add-base-in-loop-at : need.add-base-in-loop-at
@@ -74,7 +74,7 @@ loop-at-again g c =
     let long = c .loop-at .kept .list in
     let places = c .pre .places in
     let is : c .row-of-cell-place .result ≡ cell-at (c .args .cells .now) (c .loop-at .base + index Fs (c .loop-at .state)) .row =
-        c .row-of-cell-place .ensures ∙ ap (λ j. cell-at (c .args .cells .now) (c .loop-at .base + j) .row) (c .state-index .ensures .is) in
+    c .row-of-cell-place .ensures ∙ ap (λ j. cell-at (c .args .cells .now) (c .loop-at .base + j) .row) (c .state-index .ensures .is) in
     let on = walk-on (c .pre .sound) (c .loop-at .inv) lt (omega arith) slot next (omega arith) (ap (λ w. c .loop-at .base + w) (c .layer-width-width .ensures)) in
     subst (Walk m Fs rows (c .args .count) (c .args .cells .now) (c .args .start) lane (set list slot (c .row-of-cell-place .result)) (at + 1) next) (sym (c .other-end-state .ensures))
     (subst (λ q. Walk m Fs rows (c .args .count) (c .args .cells .now) (c .args .start) lane (set list slot q) (at + 1) next (row-at m rows q .to)) (sym is) on)

@@ -12,8 +12,7 @@ pub loop-i-again : need.loop-i-again
 loop-i-again g c =
     let cells = c .loop-i .cells in
     let i = c .loop-i .i in
-    let lt : i < length cells = omega arith in
-    (
+    let lt : i < length cells = omega arith in (
       λ k le less. ⊎-elim
           (λ low. getD-set-other cells i k no-cell no-cell (λ e. omega arith) ∙ c .loop-i .inv .0 k le low)
           (λ high. let e : i ≡ k = omega arith in subst (λ j. cell-at (set cells i no-cell) j ≡ no-cell) e (getD-set-same cells i no-cell no-cell lt))

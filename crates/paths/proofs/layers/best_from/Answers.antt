@@ -8,7 +8,7 @@ use Rattle.rowtable.specs.Tables.{state-of}
 use Rattle.paths.specs.Cells.{width, index, cell-at}
 use Rattle.paths.specs.Layers.{BestWay}
 use Rattle.paths.proofs.Products.{within}
-use Rattle.paths.proofs.Onward.{says-way}
+use Rattle.paths.proofs.Laying.{told-cell}
 use Rattle.paths.proofs.layers.best_from.Needs as need
 
 pub grade-at-requires : need.grade-at-requires
@@ -20,13 +20,17 @@ grade-at-requires g c κs =
     omega arith
 
 pub returns : need.returns
-returns g c opens =
+returns g c =
     let m = g .G·Grade in
     let Fs = c .args .phases .now in
     let cells = c .fill-layers .last .cells in
     let start = c .args .start in
-    let says = c .fill-layers .ensures .layered opens 0 (omega arith) (omega arith) start (c .pre .exists) in
-    let place : 0 * width Fs + index Fs start ≡ c .state-index .result = let e = zero-mul (width Fs) in let f = c .state-index .ensures .is in omega arith in
-    let cell = cell-at cells (0 * width Fs + index Fs start) in
-    let told = says-way (lines (c .args .book .now)) (c .pre .sound) (c .args .lane .now) start (cell .grade) (cell .row) says in
-    subst (BestWay m (lines (c .args .book .now)) Fs (c .args .rows .now) (c .args .count) (state-of Fs start) (c .args .lane .now)) (ap (λ k. cell-at cells k .grade) place ∙ sym (c .grade-at .ensures)) told
+    let place : c .state-index .result ≡ 0 + index Fs start = let f = c .state-index .ensures .is in omega arith in
+    let is : c .grade-at .result ≡ cell-at cells (0 + index Fs start) .grade = c .grade-at .ensures ∙ ap (λ k. cell-at cells k .grade) place in
+    record {
+      linked = c .fill-layers .ensures .linked;
+      layered = c .fill-layers .ensures .layered;
+      is = is;
+      told = λ opens. subst (BestWay m (lines (c .args .book .now)) Fs (c .args .rows .now) (c .args .count) (state-of Fs start) (c .args .lane .now)) (sym is)
+          (told-cell (lines (c .args .book .now)) (c .pre .sound) (c .args .lane .now) cells start (c .pre .exists) (c .fill-layers .ensures .layered opens));
+    }

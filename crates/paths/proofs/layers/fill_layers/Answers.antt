@@ -71,4 +71,3 @@ returns g c =
           (subst (λ k. Linked (g .G·Grade) Fs (c .args .rows .now) (c .args .count) (c .loop-at .cells) (drop k (c .args .lane .now)) (k * width Fs)) none (c .loop-at .inv .2));
       layered = λ opens q low. c .loop-at .inv .1 opens q (omega arith);
     }
-

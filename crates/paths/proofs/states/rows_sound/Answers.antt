@@ -16,4 +16,4 @@ returns-then-not-row-exists g c =
     let le = c .if-count-rows .left in
     let is : c .index-rows-i .result ≡ row-at m rows i = getD-read rows i (c .index-rows-i .result) (omega arith) (c .index-rows-i .is) (blank-row (m .best)) in
     refused (λ sound. sym (c .if-not-row-exists .taken)
-        ∙ c .row-exists .ensures .1 (subst (λ r. Exists (c .args .phases .now) (r .from) × Exists (c .args .phases .now) (r .to)) (sym is) (sound .from i lt, sound .to i lt)))
+    ∙ c .row-exists .ensures .1 (subst (λ r. Exists (c .args .phases .now) (r .from) × Exists (c .args .phases .now) (r .to)) (sym is) (sound .from i lt, sound .to i lt)))
