@@ -5,3 +5,4 @@ pub mod Stopping
 pub mod Products
 pub mod Asking
 pub mod Laying
+pub mod Standing
