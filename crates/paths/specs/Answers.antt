@@ -9,7 +9,7 @@ use Rattle.grade.specs.declared.grade.Grade.{Ghosts}
 use Rattle.text.specs.declared.line.Line.{Line}
 use Rattle.model.specs.Moves.{Position, Move}
 use Rattle.model.specs.Watch.{Reaches}
-use Rattle.model.specs.Grades.{RunGrade, Best}
+use Rattle.model.specs.Grades.{moves-grade, RunGrade, Best}
 use Rattle.rows.specs.Rows.{head}
 use Rattle.phases.specs.declared.table.Phases.{Phases}
 use Rattle.phases.specs.Table.{Holds, OpenedBy}
@@ -21,6 +21,7 @@ use Rattle.paths.specs.declared.refusal.PathRefusal.{PathRefusal}
 use Rattle.paths.specs.declared.refusal.PathRefusal.the-variants.{TooLarge, NotOpened, ScratchShort, ListShort, NoWay, BrokenRow}
 use Rattle.paths.specs.Cells.{width, Sound}
 use Rattle.paths.specs.Layers.{RowWay, PathOf}
+use Rattle.paths.specs.Runs.{StandsFor}
 
 -- the number that each refusal is told by; its place is 0
 abbrev pub path-number : PathRefusal → ℕ
@@ -98,3 +99,7 @@ module _ {G : Type 0} (m : Ghosts G) (ls : List Line) (p : Phases) (rows : List 
 
   abbrev pub LaidTold : List ℕ → Result G PathRefusal → Type 0
   LaidTold list r = Cases r (λ v. Asked p x places × ((length (x .lane) + n ≤ length list) × (Sound m (used p) rows n × (OpenedBy ls p → PathLaid list v)))) (Unlaid (length list))
+
+  -- Over rows with right reasons the path laid out stands for one run into the watch, of the grade that is told.
+  abbrev pub RunLaid : List ℕ → Result G PathRefusal → Type 0
+  RunLaid list r = Cases r (λ v. (ms : List Move) × (StandsFor m ls (used p) rows n x (reverse (take (length (x .lane)) list)) ms × (moves-grade m ms ≡ v))) (λ e. Unit {0})

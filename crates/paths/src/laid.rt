@@ -11,8 +11,9 @@ ghost use Rattle.phases.specs.Table.{OpenedBy};
 ghost use Rattle.rows.specs.Ways.{Saturated};
 ghost use Rattle.rowtable.specs.Tables.{Exists, Held, state-of};
 ghost use Rattle.paths.specs.Cells.{width, Sound};
+ghost use Rattle.paths.specs.Runs.{Reasoned};
 ghost use Rattle.paths.specs.Layers.{Opens, BestWay, PathOf};
-ghost use Rattle.paths.specs.Answers.{used, LaidTold, RunsTold, path-number};
+ghost use Rattle.paths.specs.Answers.{used, LaidTold, RunsTold, RunLaid, path-number};
 use crate::cell::Cell;
 use crate::lay::lay;
 use crate::layers::best_from;
@@ -75,6 +76,8 @@ pub fn lay_out<G: Grade>(
     ensures told { λ r. ⌜ LaidTold G·Grade (lines (now (book .entry))) (now (phases .entry)) (now (rows .entry)) count (at mode phase (now (lane .entry))) (length (now (scratch .entry))) (now (list .exit)) r ⌝ }
     ensures runs { λ r. ⌜ (OpenedBy (lines (now (book .entry))) (now (phases .entry)) → Saturated G·Grade (lines (now (book .entry))) (Held (used (now (phases .entry))) (now (rows .entry)) count)
         → RunsTold G·Grade (lines (now (book .entry))) (now (phases .entry)) (now (rows .entry)) count (at mode phase (now (lane .entry))) (length (now (scratch .entry))) r) ⌝ }
+    ensures stands { λ r. ⌜ (OpenedBy (lines (now (book .entry))) (now (phases .entry)) → Reasoned G·Grade (lines (now (book .entry))) (used (now (phases .entry))) (now (rows .entry)) count
+        → RunLaid G·Grade (lines (now (book .entry))) (now (phases .entry)) (now (rows .entry)) count (at mode phase (now (lane .entry))) (length (now (scratch .entry))) (now (list .exit)) r) ⌝ }
     ensures cells { λ r. ⌜ Cases r (λ _. Unit {0}) (λ e. path-number e < 13 → now (scratch .exit) ≡ now (scratch .entry)) ⌝ }
     ensures rest { λ r. ⌜ Cases r (λ _. Unit {0}) (λ e. path-number e < 15 → now (list .exit) ≡ now (list .entry)) ⌝ }
 {

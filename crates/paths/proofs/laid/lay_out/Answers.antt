@@ -9,10 +9,11 @@ use Rattle.std.proofs.shelf.Results.{err-from-errBy}
 use Rattle.book.specs.Lines.{lines}
 use Rattle.model.specs.Moves.{at}
 use Rattle.rowtable.specs.Tables.{Exists}
-use Rattle.paths.specs.Answers.{used, Unasked, LaidTold, RunsTold}
+use Rattle.paths.specs.Answers.{used, Unasked, LaidTold, RunsTold, RunLaid}
 use Rattle.paths.specs.Cells.{width, Sound}
 use Rattle.paths.specs.Layers.{BestWay, PathOf}
 use Rattle.paths.proofs.Asking.{used-few, needed-width, at-start, best-run, no-run, unasked-unlaid, unasked-early, stays}
+use Rattle.paths.proofs.Standing.{paths-stand}
 use Rattle.paths.proofs.laid.lay_out.Needs as need
 
 pub lay-best-requires : need.lay-best-requires
@@ -44,6 +45,7 @@ returns-in-Break-start g c =
     record {
       told = subst (LaidTold m ls p rows n x places (c .args .list .now)) (sym is) (unasked-unlaid m ls p rows n x places (length (c .args .list .now)) e why);
       runs = λ opened saturated. subst (RunsTold m ls p rows n x places) (sym is) (λ thirteen. let early = unasked-early m ls p rows n x places e why in absurd (omega arith));
+      stands = λ opened reasoned. subst (RunLaid m ls p rows n x places (c .args .list .now)) (sym is) tt;
       cells = stays 13 (c .from-residual .result) _ _ refl;
       rest = stays 15 (c .from-residual .result) _ _ refl;
     }
@@ -61,6 +63,7 @@ returns-then-not-rows-sound g c = record {
     ),
   );
   runs = λ opened saturated other. absurd (omega arith);
+  stands = λ opened reasoned. tt;
   cells = λ lt. absurd (omega arith);
   rest = λ lt. refl;
 }
@@ -90,6 +93,7 @@ returns-in-Some g c =
         ),
       );
       runs = λ opened saturated. best-run p (c .lawful .ensures) ls x places opened (ready .asked) saturated v (told opened);
+      stands = λ opened reasoned. paths-stand m ls (used p) rows n (c .lawful .ensures) reasoned x (reverse (take (length lane) list)) v (laid opened);
       cells = tt;
       rest = tt;
     }
@@ -113,6 +117,7 @@ returns-in-None g c =
         (ready .asked, (subst (λ Fs. Sound m Fs rows n) e (c .rows-sound .ensures .0 (c .if-not-rows-sound .left)), told)),
       );
       runs = λ opened saturated same. no-run p (c .lawful .ensures) ls x places opened (ready .asked) saturated (told opened);
+      stands = λ opened reasoned. tt;
       cells = λ lt. absurd (omega arith);
       rest = λ lt. c .in-None .ensures tt .laid;
     }
