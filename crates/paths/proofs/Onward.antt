@@ -6,8 +6,7 @@ use native.Mathlib.Omega.{arith}
 use lib.Dec.{T}
 use lib.ListN.{length, getD}
 use Rattle.std.proofs.shelf.Lists.{getD-default}
-use Rattle.std.proofs.shelf.Results.{cases-at-some, cases-at-none}
-use Rattle.std.specs.Options.{Cases as BySome}
+use Rattle.std.proofs.shelf.Results.{cases-at-some}
 use Rattle.std.specs.declared.option.Option.{Option}
 use Rattle.std.specs.declared.option.Option.the-variants.{Some, None}
 use Rattle.grade.specs.declared.grade.Grade.{Ghosts}
@@ -23,11 +22,6 @@ use Rattle.paths.specs.declared.cell.Cell.{Cell}
 use Rattle.paths.specs.Cells.{width, index, cell-at, row-at, Chosen, Says, Layer, Via, Sound}
 use Rattle.paths.specs.Layers.{Opens, RowWay, ByRow, Onward, BestWay}
 use Rattle.paths.proofs.Indexes.{same-state}
-
--- a case for each
-by-some : {X : Type 0} {P : Type 0} {Q : X → Type 0} (o : Option X) → (o ≡ None → P) → ((x : X) → o ≡ Some x → Q x) → BySome o P Q
-by-some None none some = none refl
-by-some (Some x) none some = some x refl
 
 module _ {G : Type 0} {m : Ghosts G} (ls : List Line) {Fs : List ℕ} {rows : List (TableRow G)} {n : ℕ} (sound : Sound m Fs rows n) where
   abbrev Ways : State → List ℕ → G → Type 0
