@@ -12,7 +12,7 @@ use crate::table::Phases;
 use book::tables::Book;
 
 // Whether the mode and each wagon are within their limits, and the lane is not too long.
-fn fits(mode: u8, lane: &[u8]) -> bool
+pub fn fits(mode: u8, lane: &[u8]) -> bool
     ensures { λ r. ⌜ Decides r (Fits mode (now (lane .entry))) ⌝ }
 {
     if mode > 15 || lane.len() > 32 {

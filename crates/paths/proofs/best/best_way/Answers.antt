@@ -1,0 +1,90 @@
+use mathlib.Core.Path.{_≡_, refl, sym, ap, subst, _∙_}
+use mathlib.Core.Bool.{true, false}
+use Prim.Native.Nat.{ℕ, _+_, _*_, _≤_}
+use native.Mathlib.Omega.{arith}
+use lib.ListN.{length}
+use Rattle.std.specs.declared.option.Option.the-variants.{Some, None}
+use Rattle.std.proofs.shelf.Results.{err-from-errBy}
+use Rattle.book.specs.Lines.{lines}
+use Rattle.model.specs.Moves.{at}
+use Rattle.phases.specs.Table.{OpenedBy}
+use Rattle.rowtable.specs.Tables.{Exists}
+use Rattle.paths.specs.Answers.{used, Asked, Unasked, BestTold, RunsTold}
+use Rattle.paths.specs.Cells.{width, Sound}
+use Rattle.paths.specs.Layers.{BestWay}
+use Rattle.paths.proofs.Asking.{used-few, needed-width, at-start, best-run, no-run, unasked-untold, unasked-early, stays}
+use Rattle.paths.proofs.best.best_way.Needs as need
+
+pub returns-then-not-rows-sound : need.returns-then-not-rows-sound
+returns-then-not-rows-sound g c = record {
+  told = (
+    c .in-Continue-start .ensures tt .asked,
+    λ sound.
+        let no : false ≡ true = sym (c .if-not-rows-sound .taken) ∙ c .rows-sound .ensures .1 (subst (λ Fs. Sound (g .G·Grade) Fs (c .args .rows .now) (c .args .count)) (sym (c .in-use-opened .ensures)) sound) in
+        let never : _≡_ {A = ℕ} 0 1 = cc in
+        omega arith,
+  );
+  runs = λ opened saturated other. absurd (omega arith);
+  kept = λ lt. absurd (omega arith);
+}
+
+pub best-from-requires : need.best-from-requires
+best-from-requires g c κs =
+    let p = c .args .phases .now in
+    let e = c .in-use-opened .ensures in
+    let ready = c .in-Continue-start .ensures tt in
+    record {
+      few = subst (λ Fs. length Fs ≤ 32) (sym e) (used-few p);
+      sound = c .rows-sound .ensures .0 (c .if-not-rows-sound .left);
+      exists = subst (λ Fs. Exists Fs (c .in-Continue-start .start)) (sym e) (ready .exists);
+      short = ready .asked .fits .short;
+      room = subst (λ Fs. (length (c .args .lane .now) + 1) * width Fs ≤ length (c .args .scratch .now)) (sym e)
+          (subst (λ k. k ≤ length (c .args .scratch .now)) (needed-width p (c .args .lane .now)) (ready .asked .room));
+    }
+
+pub returns-in-Some : need.returns-in-Some
+returns-in-Some g c =
+    let m = g .G·Grade in
+    let p = c .args .phases .now in
+    let ls = lines (c .args .book .now) in
+    let e = c .in-use-opened .ensures in
+    let ready = c .in-Continue-start .ensures tt in
+    let x = at (c .args .mode) (c .args .phase) (c .args .lane .now) in
+    let told = at-start p ls (λ Fs t. BestWay m ls Fs (c .args .rows .now) (c .args .count) t (c .args .lane .now) (Some (c .in-Some .grade))) (c .in-use-opened .result .now) x (length (c .args .scratch .now)) (c .in-Continue-start .start) e ready (c .in-Some .ensures tt .told) in
+    record {
+      told = (ready .asked, (subst (λ Fs. Sound m Fs (c .args .rows .now) (c .args .count)) e (c .rows-sound .ensures .0 (c .if-not-rows-sound .left)), told));
+      runs = λ opened saturated. best-run p (c .lawful .ensures) ls x (length (c .args .scratch .now)) opened (ready .asked) saturated (c .in-Some .grade) (told opened);
+      kept = tt;
+    }
+
+pub returns-in-None : need.returns-in-None
+returns-in-None g c =
+    let m = g .G·Grade in
+    let p = c .args .phases .now in
+    let ls = lines (c .args .book .now) in
+    let e = c .in-use-opened .ensures in
+    let ready = c .in-Continue-start .ensures tt in
+    let x = at (c .args .mode) (c .args .phase) (c .args .lane .now) in
+    let told = at-start p ls (λ Fs t. BestWay m ls Fs (c .args .rows .now) (c .args .count) t (c .args .lane .now) None) (c .in-use-opened .result .now) x (length (c .args .scratch .now)) (c .in-Continue-start .start) e ready (c .in-None .ensures tt .told) in
+    record {
+      told = (ready .asked, (subst (λ Fs. Sound m Fs (c .args .rows .now) (c .args .count)) e (c .rows-sound .ensures .0 (c .if-not-rows-sound .left)), told));
+      runs = λ opened saturated same. no-run p (c .lawful .ensures) ls x (length (c .args .scratch .now)) opened (ready .asked) saturated (told opened);
+      kept = λ lt. absurd (omega arith);
+    }
+
+pub returns-in-Break-start : need.returns-in-Break-start
+returns-in-Break-start g c =
+    let m = g .G·Grade in
+    let p = c .args .phases .now in
+    let ls = lines (c .args .book .now) in
+    let rows = c .args .rows .now in
+    let n = c .args .count in
+    let x = at (c .args .mode) (c .args .phase) (c .args .lane .now) in
+    let places = length (c .args .scratch .now) in
+    let (e, is, same) = err-from-errBy (c .from-residual .result) (c .from-residual .ensures .1) in
+    let why = subst (Unasked p x places) (sym same) (c .in-Break-start .ensures tt) in
+    record {
+      told = subst (BestTold m ls p rows n x places) (sym is) (unasked-untold m ls p rows n x places e why);
+      runs = λ opened saturated. subst (RunsTold m ls p rows n x places) (sym is) (λ thirteen. let early = unasked-early m ls p rows n x places e why in absurd (omega arith));
+      kept = stays 12 (c .from-residual .result) _ _ refl;
+    }

@@ -1,0 +1,4 @@
+pub mod Cells
+pub mod Layers
+pub mod Answers
+pub mod Runs
