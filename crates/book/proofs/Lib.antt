@@ -10,3 +10,4 @@ pub mod Places
 pub mod Written
 pub mod Back
 pub mod Told
+pub mod Standing

@@ -18,17 +18,17 @@ use text::line::WatchLine;
 #[derive(Drop)]
 pub struct Book {
     // an order or notice stands at its own number
-    rules: [Rule; 64],
+    pub rules: [Rule; 64],
     // the phases of the open lines, of which there are `opening`
-    opens: [u64; 8],
-    opening: usize,
-    watches: [WatchLine; 128],
-    watching: usize,
-    links: [LinkLine; 128],
-    linking: usize,
+    pub opens: [u64; 8],
+    pub opening: usize,
+    pub watches: [WatchLine; 128],
+    pub watching: usize,
+    pub links: [LinkLine; 128],
+    pub linking: usize,
     // whether the node, or the mode, with this number has a line
-    ends: [bool; 64],
-    bares: [bool; 16],
+    pub ends: [bool; 64],
+    pub bares: [bool; 16],
     // what makes equal books equal records
     ghost numbered: { (length rules ≡ 64) × ∥ Along At-number 0 rules ∥₁ },
     ghost phases: { ∥ All (λ F. F < 2 ^ 64) opens ∥₁ },

@@ -1,0 +1,5 @@
+pub mod Rows
+pub mod Naming
+pub mod Listing
+pub mod Marking
+pub mod Holding

@@ -1,0 +1,7 @@
+use borrow.Author.Needs.{needs}
+use Rattle.model.specs.Phases.{after}
+use Rattle.phases.proofs.sets.phase_after.Needs as need
+
+pub returns : need.returns
+unfolding after
+returns c = search needs
