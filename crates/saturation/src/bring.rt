@@ -1,0 +1,1 @@
+// What the row settled last brings.

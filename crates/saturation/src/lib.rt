@@ -1,0 +1,7 @@
+// Best-first saturation of a book's rows over a lent row table and lent waiting places. Rows stay at their places: a row that
+// waits gets better or is settled where it stands, and the queue holds its place with its grade.
+mod bring;
+mod keys;
+mod offer;
+mod rules;
+mod sets;
