@@ -15,6 +15,7 @@ use Rattle.std.specs.declared.option.Option.the-variants.{Some, None}
 use Rattle.grade.specs.declared.grade.Grade.{Ghosts}
 use Rattle.grade.specs.declared.waiting.Waiting.{Waiting}
 use Rattle.grade.specs.Waits.{sooner}
+use Rattle.grade.specs.Lawful.{Lawful}
 use Rattle.queue.specs.Queues.{Queue, Single, Holds, StandsAt, MayReplace, Put, Replaced}
 use Rattle.queue.proofs.Members.{put-holds, put-single, replaced-holds, replaced-single}
 use Rattle.deduction.proofs.Grades.{no-worse-itself}
@@ -317,3 +318,70 @@ module _ {G : Type 0} {m : Ghosts G} {Fs : List ℕ} {ls : List Line} {rows : Li
   full-now new none nowhere =
       let is : n ≡ min (length rows) (length queue) = let a = t .room in let b = t .entries in ⊎-elim (λ h. omega arith) (λ h. omega arith) none in
       subst (Full m Fs ls s (λ r. r ≡ new) rows n) is (record { rows = rows; queue = queue; table = t; grown = grown-none; row = new; new = refl; nowhere = nowhere })
+
+-- one growth after another
+module _ {G : Type 0} {m : Ghosts G} {Fs : List ℕ} where
+  pub grown-then : {s : ℕ} {New New′ : TableRow G → Type 0} {a b c : List (TableRow G)} {l k n : ℕ} → Lawful m → ((r : TableRow G) → New′ r → New r) → Grown m Fs s New a l b k → Grown m Fs s New′ b k c n → Grown m Fs s New a l c n
+  grown-then {New} {New′} {a} {b} {c} {l} {k} {n} lawful weaken one two = record {
+    more = let x = one .more in let y = two .more in omega arith;
+    kept = λ p r h. two .kept p r (one .kept p r h);
+    back = λ p r h. one .back p r (two .back p r h);
+    keys = λ j h. two .keys j (let x = one .more in omega arith) ∙ one .keys j h;
+    better = λ j h. lawful .transitive _ _ _ (two .better j (let x = one .more in omega arith)) (one .better j h);
+    rightly = λ j h. ⊎-elim (λ old. ⊎-elim (λ older. inl (older .0, old .1 ∙ older .1)) (λ new. inr (subst New (sym (old .1)) new)) (one .rightly j (old .0))) (λ new. inr (weaken (row-at m c j) new)) (two .rightly j h);
+  }
+
+  pub covers-later : {s : ℕ} {New : TableRow G → Type 0} {a b : List (TableRow G)} {k n : ℕ} (i : Row) (g : G) → Lawful m → Grown m Fs s New a k b n → Covers m Fs a k i g → Covers m Fs b n i g
+  covers-later {a = a} {b = b} i g lawful grown (j, h, is, le) =
+      (j, let x = grown .more in omega arith, key-row Fs (row-at m b j) (row-at m a j) (grown .keys j h) ∙ is, lawful .transitive _ _ _ (grown .better j h) le)
+
+module _ {G : Type 0} {m : Ghosts G} {Fs : List ℕ} {ls : List Line} where
+  pub went-so : {s : ℕ} {New : TableRow G → Type 0} {old new : List (TableRow G)} {n l : ℕ} {waited queue : List (Waiting G)} {B C : Type 0} → (B → C) → Went m Fs ls s New old n waited new l queue B → Went m Fs ls s New old n waited new l queue C
+  went-so f w = record { table = w .table; grown = w .grown; rows-long = w .rows-long; queue-long = w .queue-long; done = f (w .done) }
+
+  pub ends-so : {s : ℕ} (New : TableRow G → Type 0) (old : List (TableRow G)) (n : ℕ) (waited : List (Waiting G)) (new : List (TableRow G)) (queue : List (Waiting G)) (B C : List (TableRow G) → ℕ → Type 0) (r : Option ℕ) → ((l : ℕ) → B new l → C new l)
+      → Ends m Fs ls s New old n waited new queue B r → Ends m Fs ls s New old n waited new queue C r
+  ends-so New old n waited new queue B C None f stuck = stuck
+  ends-so New old n waited new queue B C (Some l) f w = went-so (f l) w
+
+  module _ {s : ℕ} {New New′ : TableRow G → Type 0} {old mid : List (TableRow G)} {n k : ℕ} {waited q : List (Waiting G)} {A : Type 0} (went : Went m Fs ls s New old n waited mid k q A) (weaken : (r : TableRow G) → New′ r → New r) where
+    lawful-now : Lawful m
+    lawful-now = went .table .lawful
+
+    pub full-on : Full m Fs ls s New′ mid k (min (length mid) (length q)) → Full m Fs ls s New old n (min (length old) (length waited))
+    full-on full =
+        subst (Full m Fs ls s New old n) (ap (λ x. min x (length q)) (went .rows-long) ∙ ap (min (length old)) (went .queue-long)) (record {
+          rows = full .rows;
+          queue = full .queue;
+          table = full .table;
+          grown = grown-then lawful-now weaken (went .grown) (full .grown);
+          row = full .row;
+          new = weaken (full .row) (full .new);
+          nowhere = full .nowhere;
+        })
+
+    pub went-on : {new : List (TableRow G)} {l : ℕ} {queue : List (Waiting G)} {B C : Type 0} → (Grown m Fs s New′ mid k new l → A → B → C) → Went m Fs ls s New′ mid k q new l queue B → Went m Fs ls s New old n waited new l queue C
+    went-on f two = record {
+      table = two .table;
+      grown = grown-then lawful-now weaken (went .grown) (two .grown);
+      rows-long = two .rows-long ∙ went .rows-long;
+      queue-long = two .queue-long ∙ went .queue-long;
+      done = f (two .grown) (went .done) (two .done);
+    }
+
+    pub ends-on : (new : List (TableRow G)) (queue : List (Waiting G)) (B C : List (TableRow G) → ℕ → Type 0) (r : Option ℕ) → ((l : ℕ) → Grown m Fs s New′ mid k new l → A → B new l → C new l)
+        → Ends m Fs ls s New′ mid k q new queue B r → Ends m Fs ls s New old n waited new queue C r
+    ends-on new queue B C None f stuck = full-on stuck
+    ends-on new queue B C (Some l) f two = went-on (f l) two
+
+-- at the exit of a `?`
+pub at-none : {X : Type 0} (P : Type 0) (Q : X → Type 0) (o : Option X) → o ≡ None → P → Cases o P Q
+at-none P Q o e p = subst (λ x. Cases x P Q) (sym e) p
+
+-- what holds below i, and at i, holds below i + 1
+pub below-next : (P : ℕ → Type 0) (i : ℕ) → ((k : ℕ) → k < i → P k) → P i → (k : ℕ) → k < i + 1 → P k
+below-next P i below here k h = from (decLt k i)
+  where
+    from : Dec (k < i) → P k
+    from (yes before) = below k before
+    from (no not-before) = let e : k ≡ i = omega arith in subst P (sym e) here

@@ -159,6 +159,10 @@ module _ {G : Type 0} (m : Ghosts G) where
       abbrev pub Brings : List (TableRow G) → (s n : ℕ) → TableRow G → TableRow G → Type 0
       Brings rows s n x = Given (SettledAt rows n s) (λ r. In (row-of Fs x) (premises r))
 
+      -- what x and y bring together
+      abbrev pub BringsBoth : List (TableRow G) → (s n : ℕ) → (x y : TableRow G) → TableRow G → Type 0
+      BringsBoth rows s n x y = Given (SettledAt rows n s) (λ r. In (row-of Fs x) (premises r) × In (row-of Fs y) (premises r))
+
       -- what lines and orders that lay nothing down give
       abbrev pub Begins : TableRow G → Type 0
       Begins = Given (λ p r. ⊥) (λ r. premises r ≡ [])
@@ -191,6 +195,10 @@ module _ {G : Type 0} (m : Ghosts G) where
     -- .. on x with y before and behind it, ..
     abbrev pub TriedPair : OrderLine → (k l : ℕ) → (x y : TableRow G) → List (TableRow G) → ℕ → Type 0
     TriedPair o k l x y rows n = TriedTwo o k l x y rows n × TriedTwo o k l y x rows n
+
+    -- .. if y was settled at place b, ..
+    abbrev pub TriedPairAt : OrderLine → (k l : ℕ) → TableRow G → List (TableRow G) → (n s b : ℕ) → List (TableRow G) → ℕ → Type 0
+    TriedPairAt o k l x old n s b rows later = (y : TableRow G) → SettledAt old n s b y → TriedPair o k l x y rows later
 
     -- .. on x and whatever was settled, by the wagons that the order lays down, ..
     abbrev pub TriedOrder : OrderLine → Wagons → (ℕ → TableRow G → Type 0) → TableRow G → List (TableRow G) → ℕ → Type 0
