@@ -17,6 +17,10 @@ use Rattle.text.specs.declared.line.Line.{Line}
 use Rattle.text.specs.declared.line.Line.the-variants as line
 use Rattle.text.specs.declared.line.OrderLine.{OrderLine}
 use Rattle.text.specs.declared.line.NoticeLine.{NoticeLine}
+use Rattle.text.specs.declared.line.Wagons.{Wagons}
+use Rattle.text.specs.declared.line.Wagons.the-variants.{Zero, One, Two}
+use Rattle.book.specs.declared.tables.Book.{Book}
+use Rattle.book.specs.declared.rule.Rule.the-variants as rule
 use Rattle.model.specs.Phases.{Stands, Allows, after}
 use Rattle.model.specs.Moves.{laid-down}
 use Rattle.rows.specs.Rows.{State, head, Row, row, wagon, Path, stay, step, Rule, order-rule, notice-rule, premises, noticed-row}
@@ -25,8 +29,8 @@ use Rattle.rowtable.specs.declared.row.TableState.the-variants.{Head}
 use Rattle.rowtable.specs.declared.row.TableRow.{TableRow}
 use Rattle.rowtable.specs.Tables.{state-of, Exists, row-of}
 use Rattle.saturation.specs.Reasons.{places, Rests, Reasoned}
-use Rattle.saturation.specs.Work.{row-at, SettledAt, Covers, Placed, Grown, Table, Given, Went, Full, Ends, Later, Last, Brings, BringsBoth, Starts, Goes, Noticed, row-by-order, row-by-notice}
-use Rattle.saturation.proofs.Growth.{ends-on, went-none}
+use Rattle.saturation.specs.Work.{row-at, SettledAt, Covers, Placed, Grown, Table, Given, Went, Full, Ends, Later, Last, Brings, BringsBoth, Starts, Goes, Noticed, row-by-order, row-by-notice, TriedOrder, TriedNotice, TriedRule}
+use Rattle.saturation.proofs.Growth.{ends-on, went-none, covers-later}
 
 -- reasons speak only of what is At its place
 module _ {G : Type 0} (m : Ghosts G) (Fs : List ℕ) {At At′ : ℕ → TableRow G → Type 0} (on : (p : ℕ) (r : TableRow G) → At p r → At′ p r) where
@@ -48,6 +52,7 @@ module _ {G : Type 0} {m : Ghosts G} {Fs : List ℕ} where
     }
 
     pub given-on : {At At′ : ℕ → TableRow G → Type 0} {Fit Fit′ : Rule ls → Type 0} → ((p : ℕ) (r : TableRow G) → At p r → At′ p r) → ((r : Rule ls) → Fit r → Fit′ r) → (r : TableRow G) → Given m Fs ls At Fit r → Given m Fs ls At′ Fit′ r
+    unfolding reasoned-on
     given-on on fits r new = record { reasoned = reasoned-on on (new .reasoned); fit = fits (new .reasoned .rule) (new .fit); waits = new .waits; placed = new .placed }
 
     -- an offer of a row that is New
@@ -123,7 +128,7 @@ module _ {G : Type 0} {m : Ghosts G} {Fs : List ℕ} where
             };
             fit = inl is-x;
             waits = refl;
-            placed = ((c .mode .fits, no .within), settled-placed here .1);
+            placed = ((c .mode .fits, ntc .within), settled-placed here .1);
           }
 
       -- they are no better than what is settled
@@ -137,8 +142,8 @@ module _ {G : Type 0} {m : Ghosts G} {Fs : List ℕ} where
           t .lawful .transitive _ _ _ (last .climbing p r h) (t .lawful .transitive _ _ _ (t .lawful .growsr (x .grade) (y .grade)) (t .lawful .growsr toll (m .join (x .grade) (y .grade))))
 
     -- what x brings from rows as they are now it brings from those at the start
-    pub brings-back : {s n k : ℕ} {New : TableRow G → Type 0} {old mid : List (TableRow G)} {x : TableRow G} → Grown m Fs s New old n mid k → (r : TableRow G) → Brings m Fs ls mid s k x r → Brings m Fs ls old s n x r
-    brings-back grown = given-on (grown .back) (λ r f. f)
+    pub brings-back : {s n k : ℕ} {New : TableRow G → Type 0} {old mid : List (TableRow G)} (x : TableRow G) → Grown m Fs s New old n mid k → (r : TableRow G) → Brings m Fs ls mid s k x r → Brings m Fs ls old s n x r
+    brings-back x grown = given-on (grown .back) (λ r f. f)
 
     -- the row settled last stays so
     pub last-on : {s n k a : ℕ} {New : TableRow G → Type 0} {old mid : List (TableRow G)} {x : TableRow G} → Grown m Fs s New old n mid k → Last m Fs ls old s n a x → Last m Fs ls mid s k a x
@@ -148,3 +153,46 @@ module _ {G : Type 0} {m : Ghosts G} {Fs : List ℕ} where
 module _ {G : Type 0} {m : Ghosts G} {Fs : List ℕ} where
   pub starts-once : {o : OrderLine} {k i j : ℕ} {x : TableRow G} → Starts m Fs o k x i → Starts m Fs o k x j → i ≡ j
   starts-once p q = let a = p .from in let b = q .from in cc
+
+-- what was tried once stays so, and trying it on what is settled now is trying it on what was settled at the start
+module _ {G : Type 0} (m : Ghosts G) (Fs : List ℕ) (x : TableRow G) where
+  module _ {s : ℕ} {New : TableRow G → Type 0} {mid new : List (TableRow G)} {k n : ℕ} (lawful : Lawful m) (grown : Grown m Fs s New mid k new n) where
+    pub order-later : (At : ℕ → TableRow G → Type 0) (o : OrderLine) (w : Wagons) → TriedOrder m Fs o w At x mid k → TriedOrder m Fs o w At x new n
+    order-later At o Zero tried = tt
+    order-later At o (One w) tried = λ i st. covers-later _ _ lawful grown (tried i st)
+    order-later At o (Two v w) tried = λ p y at. ((λ i st go. covers-later _ _ lawful grown (tried p y at .0 i st go)), (λ i st go. covers-later _ _ lawful grown (tried p y at .1 i st go)))
+
+    pub rule-later : (b : Book) (j : ℕ) (At : ℕ → TableRow G → Type 0) → TriedRule m Fs b j At x mid k → TriedRule m Fs b j At x new n
+    rule-later b j At tried = record {
+      orders = λ o e. order-later At o (o .wagons) (tried .orders o e);
+      notices = λ c e i h ntc. covers-later _ _ lawful grown (tried .notices c e i h ntc);
+    }
+
+  module _ {At At′ : ℕ → TableRow G → Type 0} (on : (p : ℕ) (r : TableRow G) → At′ p r → At p r) (rows : List (TableRow G)) (n : ℕ) where
+    pub order-from : (o : OrderLine) (w : Wagons) → TriedOrder m Fs o w At x rows n → TriedOrder m Fs o w At′ x rows n
+    order-from o Zero tried = tt
+    order-from o (One w) tried = tried
+    order-from o (Two v w) tried = λ p y at. tried p y (on p y at)
+
+    pub rule-from : (b : Book) (j : ℕ) → TriedRule m Fs b j At x rows n → TriedRule m Fs b j At′ x rows n
+    rule-from b j tried = record { orders = λ o e. order-from o (o .wagons) (tried .orders o e); notices = tried .notices }
+
+  -- one rule stands at a place
+  module _ (b : Book) (j : ℕ) (At : ℕ → TableRow G → Type 0) (rows : List (TableRow G)) (n : ℕ) where
+    pub rule-none : getD (b .rules) j rule.Free ≡ rule.Free → TriedRule m Fs b j At x rows n
+    rule-none e = record {
+      orders = λ o f. let z : _≡_ {A = ℕ} 0 1 = cc in absurd (omega arith);
+      notices = λ c f. let z : _≡_ {A = ℕ} 0 1 = cc in absurd (omega arith);
+    }
+
+    pub rule-order : (o : OrderLine) → getD (b .rules) j rule.Free ≡ rule.Order o → TriedOrder m Fs o (o .wagons) At x rows n → TriedRule m Fs b j At x rows n
+    rule-order o e tried = record {
+      orders = λ c f. let same : o ≡ c = cc in subst (λ z. TriedOrder m Fs z (z .wagons) At x rows n) same tried;
+      notices = λ c f. let z : _≡_ {A = ℕ} 0 1 = cc in absurd (omega arith);
+    }
+
+    pub rule-notice : (c : NoticeLine) → getD (b .rules) j rule.Free ≡ rule.Notice c → ((i : ℕ) → i < length Fs → TriedNotice m Fs c x i rows n) → TriedRule m Fs b j At x rows n
+    rule-notice c e tried = record {
+      orders = λ o f. let z : _≡_ {A = ℕ} 0 1 = cc in absurd (omega arith);
+      notices = λ d f. let same : c ≡ d = cc in subst (λ z. (i : ℕ) → i < length Fs → TriedNotice m Fs z x i rows n) same tried;
+    }

@@ -339,11 +339,6 @@ module _ {G : Type 0} {m : Ghosts G} {Fs : List ℕ} {ls : List Line} where
   pub went-so : {s : ℕ} {New : TableRow G → Type 0} {old new : List (TableRow G)} {n l : ℕ} {waited queue : List (Waiting G)} {B C : Type 0} → (B → C) → Went m Fs ls s New old n waited new l queue B → Went m Fs ls s New old n waited new l queue C
   went-so f w = record { table = w .table; grown = w .grown; rows-long = w .rows-long; queue-long = w .queue-long; done = f (w .done) }
 
-  pub ends-so : {s : ℕ} (New : TableRow G → Type 0) (old : List (TableRow G)) (n : ℕ) (waited : List (Waiting G)) (new : List (TableRow G)) (queue : List (Waiting G)) (B C : List (TableRow G) → ℕ → Type 0) (r : Option ℕ) → ((l : ℕ) → B new l → C new l)
-      → Ends m Fs ls s New old n waited new queue B r → Ends m Fs ls s New old n waited new queue C r
-  ends-so New old n waited new queue B C None f stuck = stuck
-  ends-so New old n waited new queue B C (Some l) f w = went-so (f l) w
-
   module _ {s : ℕ} {New New′ : TableRow G → Type 0} {old mid : List (TableRow G)} {n k : ℕ} {waited q : List (Waiting G)} {A : Type 0} (went : Went m Fs ls s New old n waited mid k q A) (weaken : (r : TableRow G) → New′ r → New r) where
     lawful-now : Lawful m
     lawful-now = went .table .lawful
@@ -373,6 +368,12 @@ module _ {G : Type 0} {m : Ghosts G} {Fs : List ℕ} {ls : List Line} where
         → Ends m Fs ls s New′ mid k q new queue B r → Ends m Fs ls s New old n waited new queue C r
     ends-on new queue B C None f stuck = full-on stuck
     ends-on new queue B C (Some l) f two = went-on (f l) two
+
+-- a weaker end
+module _ {G : Type 0} (m : Ghosts G) (Fs : List ℕ) (ls : List Line) (s : ℕ) (New : TableRow G → Type 0) (old : List (TableRow G)) (n : ℕ) (waited : List (Waiting G)) (new : List (TableRow G)) (queue : List (Waiting G)) (B C : List (TableRow G) → ℕ → Type 0) where
+  pub ends-so : (r : Option ℕ) → ((l : ℕ) → B new l → C new l) → Ends m Fs ls s New old n waited new queue B r → Ends m Fs ls s New old n waited new queue C r
+  ends-so None f stuck = stuck
+  ends-so (Some l) f w = went-so (f l) w
 
 -- at the exit of a `?`
 pub at-none : {X : Type 0} (P : Type 0) (Q : X → Type 0) (o : Option X) → o ≡ None → P → Cases o P Q

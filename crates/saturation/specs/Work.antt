@@ -3,7 +3,7 @@ use mathlib.Core.Path.{_≡_}
 use mathlib.Core.Logic.{_⊎_, _↔_}
 use mathlib.Core.Bool.{Bool}
 use mathlib.Core.List.{List, []}
-use Prim.Native.Nat.{ℕ, _<_, _≤_, _-_, min}
+use Prim.Native.Nat.{ℕ, _+_, _<_, _≤_, _-_, min}
 use lib.Dec.{T}
 use lib.ListN.{length, getD}
 use Rattle.std.specs.Options.{Cases}
@@ -13,7 +13,8 @@ use Rattle.grade.specs.declared.waiting.Waiting.{Waiting}
 use Rattle.grade.specs.Lawful.{Lawful}
 use Rattle.grade.specs.Waits.{sooner}
 use Rattle.queue.specs.Queues.{Queue, Single, Holds}
-use Rattle.deduction.specs.Counting.{Filled}
+use Rattle.deduction.specs.Counting.{Filled, Outnumber}
+use Rattle.deduction.specs.Derivations.{Derivation}
 use Rattle.deduction.specs.Lists.{In}
 use Rattle.deduction.specs.Saturation.{Invariant}
 use Rattle.text.specs.declared.line.Line.{Line}
@@ -25,7 +26,7 @@ use Rattle.model.specs.Phases.{InForce, Allows, after, Opened}
 use Rattle.book.specs.declared.rule.Rule.the-variants as rule
 use Rattle.book.specs.declared.tables.Book.{Book}
 use Rattle.book.specs.Lines.{lines}
-use Rattle.rows.specs.Rows.{Row, wagon, Rule, premises, order-row, notice-row}
+use Rattle.rows.specs.Rows.{Row, wagon, Rule, premises, order-row, notice-row, row-rules}
 use Rattle.rows.specs.Ways.{row-system}
 use Rattle.rowtable.specs.declared.row.TableState.{TableState}
 use Rattle.rowtable.specs.declared.row.TableState.the-variants.{Head}
@@ -57,6 +58,10 @@ row-by-notice m c i x a = record { from = Head (c .mode .value) i; wagon = x .wa
 -- the row of a line
 abbrev pub row-by-line : {G : Type 0} → Ghosts G → TableState → ℕ → TableState → TableRow G
 row-by-line m s k t = record { from = s; wagon = k; to = t; grade = m .best; rank = unranked; reason = reason.Line }
+
+-- the same row with another rank
+abbrev pub ranked-as : {G : Type 0} → TableRow G → ℕ → TableRow G
+ranked-as r s = record { from = r .from; wagon = r .wagon; to = r .to; grade = r .grade; rank = s; reason = r .reason }
 
 -- y goes on from x by the wagon k
 pub record Goes {G : Type 0} (k : ℕ) (x y : TableRow G) : Type 0 where
@@ -221,3 +226,19 @@ module _ {G : Type 0} (m : Ghosts G) where
       pub settled-reasons : (p : ℕ) (r : TableRow G) → SettledAt rows n s p r → Reasoned m ls Fs (SettledAt rows n (r .rank)) r
       pub waiting-reasons : (p : ℕ) (r : TableRow G) → WaitsAt rows n p r → Reasoned m ls Fs (SettledAt rows n s) r
       pub invariant : Invariant (row-system m ls) (Has (SettledAt rows n s)) (Has (WaitsAt rows n))
+
+    -- The best row that waits, at place a, was settled with the next rank; nothing else changed.
+    pub record Settles (ls : List Line) (old : List (TableRow G)) (s n : ℕ) (waited : List (Waiting G)) (a : ℕ) (new : List (TableRow G)) (queue : List (Waiting G)) : Type 0 where
+      pub within : a < n
+      pub waits : row-at m old a .rank ≡ unranked
+      pub least : (k : ℕ) → k < n → row-at m old k .rank ≡ unranked → T (m .noworse (row-at m old a .grade) (row-at m old k .grade))
+      pub here : row-at m new a ≡ ranked-as (row-at m old a) s
+      pub others : (k : ℕ) → (k ≡ a → ⊥) → row-at m new k ≡ row-at m old k
+      pub table : Table ls new (s + 1) n queue
+      pub rows-long : length new ≡ length old
+      pub queue-long : length queue ≡ length waited
+
+    -- how a turn ends: one row more is settled, or the saturated rows outnumber the places
+    abbrev pub Turned : (ls : List Line) (old : List (TableRow G)) (waited : List (Waiting G)) (s : ℕ) (new : List (TableRow G)) (queue : List (Waiting G)) → Option ℕ → Type 0
+    Turned ls old waited s new queue r =
+        Cases r (Outnumber (Derivation (row-rules ls)) (min (length old) (length waited))) (λ n. Worked ls new s n queue × (length new ≡ length old) × (length queue ≡ length waited))

@@ -122,7 +122,7 @@ fn attempt_notice<G: Grade>(book: &Book, phases: &[u64], rows: &mut [TableRow<G>
     if !noticed(phases, notice, place, &x) {
         return Some(found);
     }
-    let row = notice_row(notice, place as u8, &x, a);
+    let row = notice_row(notice, place, &x, a);
     offer(book, phases, rows, waiting, settled, found, row)
 }
 

@@ -5,3 +5,4 @@ mod keys;
 mod offer;
 mod rules;
 mod sets;
+mod turn;

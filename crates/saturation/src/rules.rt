@@ -29,11 +29,12 @@ pub fn order_row<G: Grade>(order: &OrderLine, place: u8, to: TableState, parts: 
     }
 }
 
-pub fn notice_row<G: Grade>(notice: &NoticeLine, place: u8, after: &TableRow<G>, a: usize) -> TableRow<G>
+pub fn notice_row<G: Grade>(notice: &NoticeLine, place: usize, after: &TableRow<G>, a: usize) -> TableRow<G>
+    requires { ⌜ place < 256 ⌝ }
     ensures { λ r. ⌜ r ≡ row-by-notice G·Grade (now (notice .entry)) place (now (after .entry)) a ⌝ }
 {
     TableRow {
-        from: TableState::Head(notice.mode.get() as u8, place),
+        from: TableState::Head(notice.mode.get() as u8, place as u8),
         wagon: after.wagon,
         to: after.to,
         grade: G::of_toll(notice.toll).joined(after.grade),

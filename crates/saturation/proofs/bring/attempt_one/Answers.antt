@@ -14,7 +14,10 @@ use Rattle.rowtable.specs.Tables.{state-of, row-of, blank-row}
 use Rattle.rowtable.specs.declared.row.TableRow.{TableRow}
 use Rattle.saturation.specs.Work.{row-at, row-by-order, row-by-notice, SettledAt, Covers, Placed, Brings, BringsBoth, TriedOne, TriedTwo, TriedPair, TriedPairAt, TriedOrder, TriedNotice, TriedRule}
 use Rattle.saturation.proofs.Growth.{went-none, went-so, ends-so, went-on, full-on, ends-on, covers-later, at-none, below-next}
-use Rattle.saturation.proofs.Brings.{offered, given-on, brings-one, brings-two, brings-notice, later-one, later-two, brings-back, last-on, starts-once}
+use Rattle.saturation.proofs.Brings.{offered, given-on, brings-one, brings-two, brings-notice, later-one, later-two, brings-back, last-on, starts-once, rule-later, rule-from, rule-none, rule-order, rule-notice}
+use Rattle.book.proofs.Standing.{order-at, notice-at}
+use Rattle.book.specs.declared.rule.Rule.the-variants as rule
+use Rattle.text.specs.Forms.{listed}
 use Rattle.saturation.proofs.bring.attempt_one.Needs as need
 
 pub offer-requires : need.offer-requires

@@ -14,7 +14,10 @@ use Rattle.rowtable.specs.Tables.{state-of, row-of, blank-row}
 use Rattle.rowtable.specs.declared.row.TableRow.{TableRow}
 use Rattle.saturation.specs.Work.{row-at, row-by-order, row-by-notice, SettledAt, Covers, Placed, Brings, BringsBoth, TriedOne, TriedTwo, TriedPair, TriedPairAt, TriedOrder, TriedNotice, TriedRule}
 use Rattle.saturation.proofs.Growth.{went-none, went-so, ends-so, went-on, full-on, ends-on, covers-later, at-none, below-next}
-use Rattle.saturation.proofs.Brings.{offered, given-on, brings-one, brings-two, brings-notice, later-one, later-two, brings-back, last-on, starts-once}
+use Rattle.saturation.proofs.Brings.{offered, given-on, brings-one, brings-two, brings-notice, later-one, later-two, brings-back, last-on, starts-once, rule-later, rule-from, rule-none, rule-order, rule-notice}
+use Rattle.book.proofs.Standing.{order-at, notice-at}
+use Rattle.book.specs.declared.rule.Rule.the-variants as rule
+use Rattle.text.specs.Forms.{listed}
 use Rattle.saturation.proofs.bring.bring_notice.Needs as need
 
 pub attempt-notice-requires : need.attempt-notice-requires
@@ -24,7 +27,7 @@ attempt-notice-requires g c κs =
     record { table = w .table; last = last-on (w .grown) (c .pre .last); stands = c .pre .stands; place = (omega arith, few) }
 
 pub returns-in-Break-n : need.returns-in-Break-n
-returns-in-Break-n g c = at-none _ _ (c .from-residual .result) (c .from-residual .ensures) (full-on (c .loop-place .inv) (brings-back (c .loop-place .inv .grown)) (c .in-Break-n .ensures tt))
+returns-in-Break-n g c = at-none _ _ (c .from-residual .result) (c .from-residual .ensures) (full-on (c .loop-place .inv) (brings-back (c .args .x) (c .loop-place .inv .grown)) (c .in-Break-n .ensures tt))
 
 pub loop-place-again : need.loop-place-again
 loop-place-again g c =
@@ -33,7 +36,7 @@ loop-place-again g c =
     let Fs = c .args .phases .now in
     let new = c .attempt-notice .last .rows in
     let n = c .in-Continue-n .n in
-    went-on w (brings-back (w .grown))
+    went-on w (brings-back (c .args .x) (w .grown))
       (λ grown a b. below-next (λ i. TriedNotice m Fs (c .args .notice .now) (c .args .x) i new n) (c .loop-place .place) (λ i lt h. covers-later _ _ (w .table .lawful) grown (a i lt h)) b)
       (c .in-Continue-n .ensures tt)
 

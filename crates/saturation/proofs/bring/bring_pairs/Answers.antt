@@ -14,7 +14,10 @@ use Rattle.rowtable.specs.Tables.{state-of, row-of, blank-row}
 use Rattle.rowtable.specs.declared.row.TableRow.{TableRow}
 use Rattle.saturation.specs.Work.{row-at, row-by-order, row-by-notice, SettledAt, Covers, Placed, Brings, BringsBoth, TriedOne, TriedTwo, TriedPair, TriedPairAt, TriedOrder, TriedNotice, TriedRule}
 use Rattle.saturation.proofs.Growth.{went-none, went-so, ends-so, went-on, full-on, ends-on, covers-later, at-none, below-next}
-use Rattle.saturation.proofs.Brings.{offered, given-on, brings-one, brings-two, brings-notice, later-one, later-two, brings-back, last-on, starts-once}
+use Rattle.saturation.proofs.Brings.{offered, given-on, brings-one, brings-two, brings-notice, later-one, later-two, brings-back, last-on, starts-once, rule-later, rule-from, rule-none, rule-order, rule-notice}
+use Rattle.book.proofs.Standing.{order-at, notice-at}
+use Rattle.book.specs.declared.rule.Rule.the-variants as rule
+use Rattle.text.specs.Forms.{listed}
 use Rattle.saturation.proofs.bring.bring_pairs.Needs as need
 
 pub bring-pair-requires : need.bring-pair-requires
@@ -23,7 +26,7 @@ bring-pair-requires g c κs =
     record { table = w .table; last = last-on (w .grown) (c .pre .last); stands = c .pre .stands; within = let more = w .grown .more in omega arith }
 
 pub returns-in-Break-n : need.returns-in-Break-n
-returns-in-Break-n g c = at-none _ _ (c .from-residual .result) (c .from-residual .ensures) (full-on (c .loop-b .inv) (brings-back (c .loop-b .inv .grown)) (c .in-Break-n .ensures tt))
+returns-in-Break-n g c = at-none _ _ (c .from-residual .result) (c .from-residual .ensures) (full-on (c .loop-b .inv) (brings-back (c .args .x) (c .loop-b .inv .grown)) (c .in-Break-n .ensures tt))
 
 pub loop-b-again : need.loop-b-again
 loop-b-again g c =
@@ -36,7 +39,7 @@ loop-b-again g c =
     let x = c .args .x in
     let new = c .bring-pair .last .rows in
     let n = c .in-Continue-n .n in
-    went-on w (brings-back (w .grown))
+    went-on w (brings-back (c .args .x) (w .grown))
       (λ grown a b. below-next (λ j. TriedPairAt m Fs o k l x (c .args .rows .now) (c .args .found) (c .args .settled) j new n) (c .loop-b .b)
         (λ j lt y h. ((λ i st go. covers-later _ _ (w .table .lawful) grown (a j lt y h .0 i st go)), (λ i st go. covers-later _ _ (w .table .lawful) grown (a j lt y h .1 i st go))))
         (λ y h. b y (w .grown .kept (c .loop-b .b) y h)))
