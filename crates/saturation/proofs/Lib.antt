@@ -1,2 +1,4 @@
 pub mod Growth
 pub mod Brings
+pub mod Settling
+pub mod Turns
