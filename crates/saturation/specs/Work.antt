@@ -242,3 +242,9 @@ module _ {G : Type 0} (m : Ghosts G) where
     abbrev pub Turned : (ls : List Line) (old : List (TableRow G)) (waited : List (Waiting G)) (s : ℕ) (new : List (TableRow G)) (queue : List (Waiting G)) → Option ℕ → Type 0
     Turned ls old waited s new queue r =
         Cases r (Outnumber (Derivation (row-rules ls)) (min (length old) (length waited))) (λ n. Worked ls new s n queue × (length new ≡ length old) × (length queue ≡ length waited))
+
+    -- how settling so many more rows ends: so many are settled, or all; or the saturated rows outnumber the places
+    abbrev pub Proceeded : (ls : List Line) (old : List (TableRow G)) (waited : List (Waiting G)) (s count : ℕ) (new : List (TableRow G)) (queue : List (Waiting G)) → Option (ℕ × ℕ) → Type 0
+    Proceeded ls old waited s count new queue r =
+        Cases r (Outnumber (Derivation (row-rules ls)) (min (length old) (length waited)))
+        (λ q. Worked ls new (q .0) (q .1) queue × (length new ≡ length old) × (length queue ≡ length waited) × ((q .0 ≡ s + count) ⊎ ((q .0 ≡ q .1) × (q .0 ≤ s + count))))

@@ -4,7 +4,7 @@ ghost use Prim.Native.Nat.{ℕ, _+_, _<_, _≤_};
 ghost use lib.ListN.{length};
 ghost use Rattle.std.specs.Options.{Cases as BySome};
 ghost use Rattle.book.specs.Lines.{lines};
-ghost use Rattle.saturation.specs.Work.{Table, Settles, Worked, Turned};
+ghost use Rattle.saturation.specs.Work.{Table, Settles, Worked, Turned, Proceeded};
 use book::tables::Book;
 use crate::bring::bring;
 use grade::grade::Grade;
@@ -38,4 +38,21 @@ pub fn turn<G: Grade>(book: &Book, phases: &[u64], rows: &mut [TableRow<G>], wai
     let a = settle(book, phases, rows, waiting, settled, found)?;
     let x = rows[a];
     bring(book, phases, rows, waiting, settled + 1, found, a, x)
+}
+
+// Settles `count` more rows, best grade first, or all where there are fewer. Answers how many are settled and how many there are.
+pub fn proceed<G: Grade>(book: &Book, phases: &[u64], rows: &mut [TableRow<G>], waiting: &mut [Waiting<G>], settled: usize, found: usize, count: usize) -> Option<(usize, usize)>
+    requires worked { ⌜ Worked G·Grade (now phases) (lines (now book)) (now rows) settled found (now waiting) ⌝ }
+    requires few { ⌜ length (now phases) ≤ 256 ⌝ }
+    ensures { λ r. ⌜ Proceeded G·Grade (now (phases .entry)) (lines (now (book .entry))) (now (rows .entry)) (now (waiting .entry)) settled count (now (rows .exit)) (now (waiting .exit)) r ⌝ }
+{
+    let mut done = settled;
+    let mut all = found;
+    let mut left = count;
+    while left > 0 && done < all {
+        all = turn(book, phases, rows, waiting, done, all)?;
+        done += 1;
+        left -= 1;
+    }
+    Some((done, all))
 }
