@@ -2,3 +2,4 @@ pub mod Growth
 pub mod Brings
 pub mod Settling
 pub mod Turns
+pub mod Begins

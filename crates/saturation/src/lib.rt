@@ -5,4 +5,5 @@ mod keys;
 mod offer;
 mod rules;
 mod sets;
+mod start;
 mod turn;

@@ -4,6 +4,7 @@ ghost use Prim.Native.Nat.{ℕ, _<_};
 ghost use lib.ListN.{length, getD};
 ghost use Rattle.std.specs.Options.{Cases as BySome};
 ghost use Rattle.std.specs.Orderings.{Decides};
+ghost use Rattle.rowtable.specs.declared.row.TableState.the-variants.{Node, Head};
 ghost use Rattle.saturation.specs.Work.{row-by-order, row-by-notice, row-by-line, Starts, Goes, Noticed};
 use crate::keys::same_state;
 use crate::sets::allowed;
@@ -13,8 +14,10 @@ use grade::grade::Grade;
 use rowtable::row::Reason;
 use rowtable::row::TableRow;
 use rowtable::row::TableState;
+use text::line::LinkLine;
 use text::line::NoticeLine;
 use text::line::OrderLine;
+use text::line::WatchLine;
 
 pub fn order_row<G: Grade>(order: &OrderLine, place: u8, to: TableState, parts: G, a: usize, b: usize) -> TableRow<G>
     ensures { λ r. ⌜ r ≡ row-by-order G·Grade (now (order .entry)) place to parts a b ⌝ }
@@ -43,10 +46,33 @@ pub fn notice_row<G: Grade>(notice: &NoticeLine, place: usize, after: &TableRow<
     }
 }
 
-pub fn line_row<G: Grade>(from: TableState, wagon: u8, to: TableState) -> TableRow<G>
+fn line_row<G: Grade>(from: TableState, wagon: u8, to: TableState) -> TableRow<G>
     ensures { λ r. ⌜ r ≡ row-by-line G·Grade from wagon to ⌝ }
 {
     TableRow { from, wagon, to, grade: G::best_grade(), rank: usize::MAX, reason: Reason::Line }
+}
+
+pub fn link_row<G: Grade>(link: &LinkLine) -> TableRow<G>
+    ensures { λ r. ⌜ r ≡ row-by-line G·Grade (Node (now (link .entry) .node .value)) (now (link .entry) .wagon .value) (Node (now (link .entry) .to .value)) ⌝ }
+{
+    line_row(TableState::Node(link.node.get() as u8), link.wagon.get() as u8, TableState::Node(link.to.get() as u8))
+}
+
+pub fn watch_row<G: Grade>(watch: &WatchLine, place: usize) -> TableRow<G>
+    requires { ⌜ place < 256 ⌝ }
+    ensures { λ r. ⌜ r ≡ row-by-line G·Grade (Head (now (watch .entry) .mode .value) place) (now (watch .entry) .wagon .value) (Node (now (watch .entry) .node .value)) ⌝ }
+{
+    let from = TableState::Head(watch.mode.get() as u8, place as u8);
+    line_row(from, watch.wagon.get() as u8, TableState::Node(watch.node.get() as u8))
+}
+
+// The row of an order that lays nothing down.
+pub fn lone_row<G: Grade>(order: &OrderLine, place: usize) -> TableRow<G>
+    requires { ⌜ place < 256 ⌝ }
+    ensures { λ r. ⌜ r ≡ row-by-order G·Grade (now (order .entry)) place (Head (now (order .entry) .to .value) place) (G·Grade .best) 0 0 ⌝ }
+{
+    let to = TableState::Head(order.to.get() as u8, place as u8);
+    order_row(order, place as u8, to, G::best_grade(), 0, 0)
 }
 
 // The place of the phase in which the row starts at the head after the order, by the wagon, if the order is in force in it.
