@@ -3,3 +3,4 @@ pub mod Brings
 pub mod Settling
 pub mod Turns
 pub mod Begins
+pub mod Starting

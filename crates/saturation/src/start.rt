@@ -7,7 +7,7 @@ ghost use Rattle.text.specs.declared.line.Line.the-variants as line;
 ghost use Rattle.model.specs.Phases.{Stands};
 ghost use Rattle.model.specs.Moves.{laid-down};
 ghost use Rattle.book.specs.Lines.{lines};
-ghost use Rattle.saturation.specs.Work.{Table, Ends, Begins};
+ghost use Rattle.saturation.specs.Work.{Table, Ends, Begins, Turned};
 ghost use Rattle.saturation.specs.Start.{LinkBegun, WatchBegun, OrderBegun, RuleBegun};
 use book::rule::Rule;
 use book::tables::Book;
@@ -152,4 +152,15 @@ fn begin_rules<G: Grade>(book: &Book, phases: &[u64], rows: &mut [TableRow<G>], 
         n = begin_rule(book, phases, rows, waiting, n, number)?;
     }
     Some(n)
+}
+
+// Lets all wait that rests on no other row. Answers how many rows there are; None where not all of them have a place.
+pub fn begin<G: Grade>(book: &Book, phases: &[u64], rows: &mut [TableRow<G>], waiting: &mut [Waiting<G>]) -> Option<usize>
+    requires table { ⌜ Table G·Grade (now phases) (lines (now book)) (now rows) 0 0 (now waiting) ⌝ }
+    requires few { ⌜ length (now phases) ≤ 256 ⌝ }
+    ensures { λ r. ⌜ Turned G·Grade (now (phases .entry)) (lines (now (book .entry))) (now (rows .entry)) (now (waiting .entry)) 0 (now (rows .exit)) (now (waiting .exit)) r ⌝ }
+{
+    let n = begin_links(book, phases, rows, waiting, 0)?;
+    let n = begin_watches(book, phases, rows, waiting, n)?;
+    begin_rules(book, phases, rows, waiting, n)
 }

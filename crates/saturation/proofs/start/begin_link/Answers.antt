@@ -34,8 +34,8 @@ offer-requires g c κs =
     let long = b .linked .0 in
     let few = b .linked .1 in
     let v = getD (b .links) k blank-link in
-    let read : c .index-book-k .result ≡ v = getD-read (b .links) k (c .index-book-k .result) (omega arith) (c .index-book-k .is) blank-link in
-    let is = c .link-row-row .ensures ∙ ap (λ y. row-by-line m (Node (y .node .value)) (y .wagon .value) (Node (y .to .value))) read in
+    let read = getD-default (b .links) k (c .index-book-k .result) blank-link (omega arith) in
+    let is = subst (λ y. c .link-row-row .result ≡ row-by-line m (Node (y .node .value)) (y .wagon .value) (Node (y .to .value))) read (c .link-row-row .ensures) in
     let new = begins-link (t .lawful) Fs b k v low refl in
     record {
       table = t;
@@ -54,7 +54,7 @@ returns g c =
     let long = b .linked .0 in
     let few = b .linked .1 in
     let v = getD (b .links) k blank-link in
-    let read : c .index-book-k .result ≡ v = getD-read (b .links) k (c .index-book-k .result) (omega arith) (c .index-book-k .is) blank-link in
-    let is = c .link-row-row .ensures ∙ ap (λ y. row-by-line m (Node (y .node .value)) (y .wagon .value) (Node (y .to .value))) read in
+    let read = getD-default (b .links) k (c .index-book-k .result) blank-link (omega arith) in
+    let is = subst (λ y. c .link-row-row .result ≡ row-by-line m (Node (y .node .value)) (y .wagon .value) (Node (y .to .value))) read (c .link-row-row .ensures) in
     let new = begins-link (t .lawful) Fs b k v low refl in
     offered (Begins m Fs (lines b)) t (c .offer .last .rows) (c .offer .last .waiting) (c .link-row-row .result) (row-by-line m (Node (v .node .value)) (v .wagon .value) (Node (v .to .value))) is new (LinkBegun m Fs b k) (c .offer .result) (λ l covers. covers) (c .offer .ensures)

@@ -35,8 +35,8 @@ offer-requires g c κs =
     let long = b .watched .0 in
     let few = b .watched .1 in
     let v = getD (b .watches) k blank-watch in
-    let read : c .index-book-k .result ≡ v = getD-read (b .watches) k (c .index-book-k .result) (omega arith) (c .index-book-k .is) blank-watch in
-    let is = c .watch-row-row .ensures ∙ ap (λ y. row-by-line m (Head (y .mode .value) i) (y .wagon .value) (Node (y .node .value))) read in
+    let read = getD-default (b .watches) k (c .index-book-k .result) blank-watch (omega arith) in
+    let is = subst (λ y. c .watch-row-row .result ≡ row-by-line m (Head (y .mode .value) i) (y .wagon .value) (Node (y .node .value))) read (c .watch-row-row .ensures) in
     let new = begins-watch (t .lawful) Fs b k v low refl i (c .pre .k .1) (t .phases .different .each i (c .pre .k .1)) in
     record {
       table = t;
@@ -56,7 +56,7 @@ returns g c =
     let long = b .watched .0 in
     let few = b .watched .1 in
     let v = getD (b .watches) k blank-watch in
-    let read : c .index-book-k .result ≡ v = getD-read (b .watches) k (c .index-book-k .result) (omega arith) (c .index-book-k .is) blank-watch in
-    let is = c .watch-row-row .ensures ∙ ap (λ y. row-by-line m (Head (y .mode .value) i) (y .wagon .value) (Node (y .node .value))) read in
+    let read = getD-default (b .watches) k (c .index-book-k .result) blank-watch (omega arith) in
+    let is = subst (λ y. c .watch-row-row .result ≡ row-by-line m (Head (y .mode .value) i) (y .wagon .value) (Node (y .node .value))) read (c .watch-row-row .ensures) in
     let new = begins-watch (t .lawful) Fs b k v low refl i (c .pre .k .1) (t .phases .different .each i (c .pre .k .1)) in
     offered (Begins m Fs (lines b)) t (c .offer .last .rows) (c .offer .last .waiting) (c .watch-row-row .result) (row-by-line m (Head (v .mode .value) i) (v .wagon .value) (Node (v .node .value))) is new (WatchBegun m Fs b k i) (c .offer .result) (λ l covers. covers) (c .offer .ensures)
