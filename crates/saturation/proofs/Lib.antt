@@ -4,3 +4,4 @@ pub mod Settling
 pub mod Turns
 pub mod Begins
 pub mod Starting
+pub mod Finishing

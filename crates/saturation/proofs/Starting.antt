@@ -40,15 +40,20 @@ use Rattle.saturation.specs.Start.{LinkBegun, WatchBegun, RuleBegun}
 use Rattle.saturation.proofs.Brings.{reasoned-on}
 use Rattle.saturation.proofs.Turns.{key-once, reasoned-derived}
 
-module _ {G : Type 0} {m : Ghosts G} {Fs : List ℕ} (b : Book) {old : List (TableRow G)} {waited : List (Waiting G)} where
+-- the rows of all lines, and of all orders that lay nothing down, are there
+abbrev pub Begun : {G : Type 0} (m : Ghosts G) (Fs : List ℕ) (b : Book) → List (TableRow G) → ℕ → Type 0
+Begun m Fs b rows n =
+    ((k : ℕ) → k < b .linking → LinkBegun m Fs b k rows n) × ((k : ℕ) → k < b .watching → (i : ℕ) → i < length Fs → WatchBegun m Fs b k i rows n) × ((k : ℕ) → k < 64 → RuleBegun m Fs b k rows n)
+
+module _ {G : Type 0} (m : Ghosts G) (Fs : List ℕ) (b : Book) where
   begins-derived : (r : TableRow G) → Begins m Fs (lines b) r → Derived (row-system m (lines b)) (row-of Fs r) (r .grade)
   begins-derived r new = reasoned-derived m Fs (lines b) (λ p y never. absurd never) r (new .reasoned)
 
-  all-new : {new : List (TableRow G)} {l : ℕ} → Grown m Fs 0 (Begins m Fs (lines b)) old 0 new l → (k : ℕ) → k < l → Begins m Fs (lines b) (row-at m new k)
+  all-new : {old new : List (TableRow G)} {l : ℕ} → Grown m Fs 0 (Begins m Fs (lines b)) old 0 new l → (k : ℕ) → k < l → Begins m Fs (lines b) (row-at m new k)
   all-new grown k h = ⊎-elim (λ same. let lt = same .0 in absurd (omega arith)) (λ new. new) (grown .rightly k h)
 
-  pub start-full : {n : ℕ} → Full m Fs (lines b) 0 (Begins m Fs (lines b)) old 0 n → Outnumber (Derivation (row-rules (lines b))) n
-  start-full {n} full =
+  pub start-full : {old : List (TableRow G)} {n : ℕ} → Full m Fs (lines b) 0 (Begins m Fs (lines b)) old 0 n → Outnumber (Derivation (row-rules (lines b))) n
+  start-full {n = n} full =
       let t = full .table in
       overfull-outnumber (Derivation (row-rules (lines b))) (λ k. row-of Fs (row-at m (full .rows) k)) n (record {
         different = record {
@@ -60,11 +65,7 @@ module _ {G : Type 0} {m : Ghosts G} {Fs : List ℕ} (b : Book) {old : List (Tab
         nowhere = λ k h e. full .nowhere k h (key-once Fs (t .phases .different .apart) m (row-at m (full .rows) k) (full .row) (t .placed k h) (full .new .placed) e);
       })
 
-  abbrev pub Begun : List (TableRow G) → ℕ → Type 0
-  Begun rows n =
-      ((k : ℕ) → k < b .linking → LinkBegun m Fs b k rows n) × ((k : ℕ) → k < b .watching → (i : ℕ) → i < length Fs → WatchBegun m Fs b k i rows n) × ((k : ℕ) → k < 64 → RuleBegun m Fs b k rows n)
-
-  module _ {new : List (TableRow G)} {l : ℕ} {queue : List (Waiting G)} (went : Went m Fs (lines b) 0 (Begins m Fs (lines b)) old 0 waited new l queue (Begun new l)) where
+  module _ {old new : List (TableRow G)} {l : ℕ} {waited queue : List (Waiting G)} (went : Went m Fs (lines b) 0 (Begins m Fs (lines b)) old 0 waited new l queue (Begun m Fs b new l)) where
     t : Table m Fs (lines b) new 0 l queue
     t = went .table
 
@@ -109,6 +110,6 @@ module _ {G : Type 0} {m : Ghosts G} {Fs : List ℕ} (b : Book) {old : List (Tab
       invariant = start-holds (laws-of lawful) (λ i g h. let low = h .2 .ranked in omega arith) (record { axioms = axiom-of; all = all-axioms m gives });
     }
 
-  pub begin-ends : (new : List (TableRow G)) (queue : List (Waiting G)) (r : Option ℕ) → Ends m Fs (lines b) 0 (Begins m Fs (lines b)) old 0 waited new queue Begun r → Turned m Fs (lines b) old waited 0 new queue r
-  begin-ends new queue None full = start-full full
-  begin-ends new queue (Some l) went = (start-worked went, went .rows-long, went .queue-long)
+  pub begin-ends : (old : List (TableRow G)) (waited : List (Waiting G)) (new : List (TableRow G)) (queue : List (Waiting G)) (r : Option ℕ) → Ends m Fs (lines b) 0 (Begins m Fs (lines b)) old 0 waited new queue (Begun m Fs b) r → Turned m Fs (lines b) old waited 0 new queue r
+  begin-ends old waited new queue None full = start-full full
+  begin-ends old waited new queue (Some l) went = (start-worked went, went .rows-long, went .queue-long)

@@ -1,3 +1,4 @@
 pub mod Reasons
 pub mod Work
 pub mod Start
+pub mod Finished

@@ -4,6 +4,7 @@ mod bring;
 mod keys;
 mod offer;
 mod rules;
+mod saturate;
 mod sets;
 mod start;
 mod turn;
