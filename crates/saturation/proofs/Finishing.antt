@@ -2,10 +2,12 @@
 use mathlib.Core.Path.{_≡_, refl, sym, ap, subst, _∙_}
 use mathlib.Core.List.{List}
 use mathlib.Core.Logic.{_⊎_, inl, inr, ⊎-elim}
-use Prim.Native.Nat.{ℕ, _<_, _≤_, _-_, min}
+use Prim.Native.Nat.{ℕ, _+_, _<_, _≤_, _-_, min}
 use native.Mathlib.Omega.{arith}
-use lib.ListN.{length, getD}
-use Rattle.std.proofs.shelf.Lists.{getD-default}
+use lib.ListN.{length, getD, set}
+use lib.Seq.{getD-set-same, getD-set-other}
+use native.Mathlib.Decide.{decLt, ℕ-discrete}
+use Rattle.std.proofs.shelf.Lists.{getD-default, getD-past}
 use Rattle.grade.specs.declared.grade.Grade.{Ghosts}
 use Rattle.grade.specs.declared.waiting.Waiting.{Waiting}
 use Rattle.grade.specs.Lawful.{Lawful}
@@ -110,3 +112,19 @@ module _ {G : Type 0} {m : Ghosts G} {Fs : List ℕ} {ls : List Line} {rows : Li
       let b = t .entries in
       omega arith;
   }
+
+-- one place more is blank
+pub clear-more : {G : Type 0} (m : Ghosts G) (rows : List (TableRow G)) (k : ℕ) (x : TableRow G) → k < length rows → x ≡ blank-row (m .best) → ((j : ℕ) → j < k → row-at m rows j ≡ blank-row (m .best)) → (j : ℕ) → j < k + 1 → row-at m (set rows k x) j ≡ blank-row (m .best)
+clear-more m rows k x low is before j lt = from (ℕ-discrete j k)
+  where
+    from : Dec (j ≡ k) → row-at m (set rows k x) j ≡ blank-row (m .best)
+    from (yes here) = ap (row-at m (set rows k x)) here ∙ getD-set-same rows k x (blank-row (m .best)) low ∙ is
+    from (no ne) = getD-set-other rows k j x (blank-row (m .best)) ne ∙ before j (omega arith)
+
+-- and so are all, as there is nothing behind the last place
+pub clear-all : {G : Type 0} (m : Ghosts G) (rows : List (TableRow G)) (n : ℕ) → length rows ≤ n → ((j : ℕ) → j < n → row-at m rows j ≡ blank-row (m .best)) → (k : ℕ) → row-at m rows k ≡ blank-row (m .best)
+clear-all m rows n le before k = from (decLt k n)
+  where
+    from : Dec (k < n) → row-at m rows k ≡ blank-row (m .best)
+    from (yes lt) = before k lt
+    from (no late) = getD-past rows k (blank-row (m .best)) (omega arith)
