@@ -6,7 +6,7 @@ use mathlib.Core.List.{List, [], _∷_, _++_, map}
 use Prim.Native.Nat.{ℕ, zero, suc, _+_, _<_, _≤_}
 use native.Mathlib.Omega.{arith}
 use lib.ListN.{length, getD, take}
-use Rattle.std.specs.shelf.Lists.{All, Has, joined}
+use Rattle.std.specs.shelf.Lists.{Has, joined}
 use Rattle.std.specs.declared.option.Option.the-variants.{Some}
 use Rattle.std.proofs.shelf.Elements.{all-has, has-append-left, has-append-right}
 use Rattle.grade.specs.declared.upto.UpTo.{UpTo}
@@ -23,7 +23,7 @@ use Rattle.book.specs.declared.rule.Rule.{Rule}
 use Rattle.book.specs.declared.rule.Rule.the-variants.{Free, Order, Notice}
 use Rattle.book.specs.declared.tables.Book.{Book}
 use Rattle.book.specs.Ranks.{rules, kind, start, stop, rank}
-use Rattle.book.specs.Tables.{Along, At-number, rule-line, end-line, bare-line, by-number}
+use Rattle.book.specs.Tables.{Along, At-number, rule-line, by-number}
 use Rattle.book.specs.Lines.{lines-of, lines}
 use Rattle.book.specs.Words.{number}
 use Rattle.book.proofs.Ascent.{head-same, no-cons, has-here, has-there, has-none, has-cases}
@@ -32,7 +32,7 @@ use Rattle.book.proofs.Books.{kept-is, at-numbers, of-kind, within-lines}
 
 -- ---- members
 
-has-either : {X : Type 0} (xs ys : List X) (x : X) → Has (xs ++ ys) x → Has xs x ⊎ Has ys x
+pub has-either : {X : Type 0} (xs ys : List X) (x : X) → Has (xs ++ ys) x → Has xs x ⊎ Has ys x
 has-either [] ys x h = inr h
 has-either (y ∷ xs) ys x h =
     ⊎-elim
@@ -132,7 +132,7 @@ along-getD P n [] i j d e lt h = absurd (omega arith)
 along-getD P n (x ∷ xs) zero j d e lt h = let same : n ≡ j = omega arith in subst (λ m. P m x) same (h .0)
 along-getD P n (x ∷ xs) (suc i) j d e lt h = along-getD P (n + 1) xs i j d (omega arith) (omega arith) (h .1)
 
-only : {X : Type 0} (x y : X) → Has (x ∷ []) y → x ≡ y
+pub only : {X : Type 0} (x y : X) → Has (x ∷ []) y → x ≡ y
 only x y h = ⊎-elim (λ e. e) (λ at. absurd (has-none y at)) (has-cases x [] y h)
 
 seated : (n : ℕ) (r : Rule) (l : Line) → At-number n r → Has (rule-line n r) l → (r ≡ line-rule l) × (rank l ≡ n)

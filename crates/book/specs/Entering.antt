@@ -19,6 +19,7 @@ use Rattle.book.specs.Ranks.{Kind, opens, watches, links, kind, start, rank}
 abbrev pub clashes : List Line → Line → Bool
 clashes ls l = among rank (rank l) ls
 
+-- kinds are told by where their ranks start
 abbrev pub same-kind : Kind → Kind → Bool
 same-kind j k = eqb (start j) (start k)
 
@@ -41,10 +42,11 @@ abbrev pub entered-line : List Line → Outcome → Result (List Line) Refusal
 entered-line ls (Err e) = Err (Misread e)
 entered-line ls (Ok l) = cond (clashes ls l) (Err Stands) (cond (full ls l) (Err Full) (Ok (put rank l ls)))
 
--- entering a text
+-- entering a text: what it says, then whether it clashes, then whether there is room
 unfoldable pub entered : List Line → List ℕ → Result (List Line) Refusal
 entered ls s = entered-line ls (read s)
 
+-- what follows, unless something was refused
 abbrev pub and-then : Result (List Line) Refusal → (List Line → Result (List Line) Refusal) → Result (List Line) Refusal
 and-then (Ok ls) next = next ls
 and-then (Err e) next = Err e

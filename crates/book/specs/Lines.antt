@@ -17,5 +17,6 @@ lines-of b links = map Link (take (b .linking) (b .links))
 lines-of b ends = by-number end-line 0 (b .ends)
 lines-of b bares = by-number bare-line 0 (b .bares)
 
+-- the lines of all kinds, one kind after another
 unfoldable pub lines : Book → List Line
 lines b = joined (lines-of b) kinds

@@ -1,10 +1,9 @@
 -- The places of a book's tables, in the order of writing.
-use mathlib.Core.Bool.{cond}
+use mathlib.Core.Bool.{cond, false}
 use mathlib.Core.List.{List, [], _∷_}
 use Prim.Native.Nat.{ℕ, _-_}
 use lib.Dec.{ltb}
 use lib.ListN.{getD}
-use mathlib.Core.Bool.{false}
 use Rattle.std.specs.declared.option.Option.{Option}
 use Rattle.std.specs.declared.option.Option.the-variants.{Some, None}
 use Rattle.text.specs.declared.line.Line.{Line}
@@ -36,14 +35,16 @@ line-in b links k = row-line Link blank-link (b .links) (b .linking) k
 line-in b ends k = end-line k (getD (b .ends) k false)
 line-in b bares k = bare-line k (getD (b .bares) k false)
 
--- the same, counting through kinds
+-- the line at a place, counting through the places of these kinds
 abbrev pub line-along : Book → List Kind → ℕ → List Line
 line-along b [] k = []
 line-along b (j ∷ js) k = cond (ltb k (places j)) (line-in b j k) (line-along b js (k - places j))
 
+-- the line, if any, at a place of a book
 abbrev pub line-at : Book → ℕ → List Line
 line-at b k = line-along b kinds k
 
+-- a line or none, as a list
 abbrev pub listing : Option Line → List Line
 listing None = []
 listing (Some l) = l ∷ []

@@ -21,6 +21,7 @@ pub data Kind : Type 0 where
 abbrev pub kinds : List Kind
 kinds = rules ∷ opens ∷ watches ∷ links ∷ ends ∷ bares ∷ []
 
+-- the kind of a line
 abbrev pub kind : Line → Kind
 kind (Order o) = rules
 kind (Notice n) = rules
@@ -56,6 +57,7 @@ stop k = start k + span k
 abbrev pub from-left : ℕ → ℕ → ℕ → ℕ
 from-left a k t = (a * 32 + k) * 64 + t
 
+-- the place of a phase, a watch line and a link line among its like
 abbrev pub phase-rank : ℕ → ℕ
 phase-rank F = F
 

@@ -4,6 +4,7 @@ use Rattle.text.specs.declared.refusal.LineRefusal.the-variants.{Syntax, TooLar
 use Rattle.book.specs.declared.refusal.Refusal.{Refusal}
 use Rattle.book.specs.declared.refusal.Refusal.the-variants.{Line, Stands, Full, NoRoom}
 
+-- the number of a refusal
 abbrev pub number-of : Refusal → ℕ
 number-of (Line (Syntax p)) = 1
 number-of (Line (TooLarge p)) = 2

@@ -12,10 +12,11 @@ use Rattle.text.specs.Numerals.{kept}
 use Rattle.book.specs.declared.rule.Rule.{Rule}
 use Rattle.book.specs.declared.rule.Rule.the-variants.{Free, Order, Notice}
 
--- a blank row: every number is 0
+-- the number of a blank row
 abbrev pub nought : (max : ℕ) → UpTo max
 nought max = record { value = 0; fits = zero-le }
 
+-- the row of a table of watch lines, or of link lines, that is not in use
 abbrev pub blank-watch : WatchLine
 blank-watch = record { mode = nought 15; wagon = nought 31; node = nought 63 }
 
@@ -39,6 +40,7 @@ rule-line k Free = []
 rule-line k (Order o) = line.Order o ∷ []
 rule-line k (Notice n) = line.Notice n ∷ []
 
+-- a place that is set stands for the line with the place's number, which is within its limit
 abbrev pub end-line : ℕ → Bool → List Line
 end-line k set = cond set (line.End (kept 63 k) ∷ []) []
 

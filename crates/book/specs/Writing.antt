@@ -19,9 +19,11 @@ use Rattle.book.specs.Words.{Once}
 abbrev pub ended : Line → List ℕ
 ended l = text l ++ 10 ∷ []
 
+-- the text of these lines, one after another
 unfoldable pub book-text : List Line → List ℕ
 book-text ls = joined ended ls
 
+-- a byte more in front of the first line
 abbrev pub before-first : ℕ → List (List ℕ) → List (List ℕ)
 before-first b [] = (b ∷ []) ∷ []
 before-first b (s ∷ ss) = (b ∷ s) ∷ ss

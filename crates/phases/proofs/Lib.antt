@@ -3,3 +3,4 @@ pub mod Naming
 pub mod Listing
 pub mod Marking
 pub mod Holding
+pub mod Told

@@ -4,15 +4,15 @@ use mathlib.Core.Logic.{_⊎_, inl, inr, ⊎-elim}
 use mathlib.Core.List.{List}
 use Prim.Native.Nat.{ℕ, _+_, _<_, _≤_}
 use native.Mathlib.Omega.{arith}
-use lib.ListN.{length, getD, set}
-use Rattle.std.proofs.shelf.Lists.{getD-set-same, getD-set-other}
+use lib.ListN.{length, getD, replicate}
+use Rattle.std.proofs.shelf.Lists.{getD-set-same, getD-set-other, getD-replicate, getD-past, length-replicate}
 use Rattle.std.proofs.shelf.Tests.{cases-lt}
 use Rattle.text.specs.declared.line.NoticeLine.{NoticeLine}
 use Rattle.text.specs.declared.line.Line.{Line}
-use Rattle.text.specs.declared.line.Line.the-variants.{Notice, Open}
-use Rattle.deduction.specs.Counting.{Different, Filled, Overfull, Outnumber}
-use Rattle.deduction.proofs.Counting.{overfull-outnumber}
-use Rattle.model.specs.Phases.{Stands, Allows, after, Opened}
+use Rattle.text.specs.declared.line.Line.the-variants.{Notice}
+use Rattle.deduction.specs.Counting.{Different}
+use Rattle.deduction.proofs.Counting.{filled-outnumber, overfull-outnumber}
+use Rattle.model.specs.Phases.{Allows, after, Opened}
 use Rattle.book.specs.declared.rule.Rule.the-variants as rule
 use Rattle.book.specs.declared.tables.Book.{Book}
 use Rattle.book.specs.Lines.{lines}
@@ -20,6 +20,8 @@ use Rattle.book.proofs.Standing.{open-stands, notice-stands, notice-at}
 use Rattle.phases.specs.declared.table.Phases.{Phases}
 use Rattle.phases.specs.declared.refusal.PhaseRefusal.{PhaseRefusal}
 use Rattle.phases.specs.Table.{phase-at, Holds, Blank, OpenedBy}
+use Rattle.phases.specs.Missing.{NoneMissing}
+use Rattle.phases.specs.Refusals.{PhasesAllowed}
 use Rattle.phases.specs.Growth.{Pushed, Added, Lacking, Found, Grown, Went, Stuck, Started, RuleFollowed, Followed, Closed}
 use Rattle.phases.proofs.Rows.{row-has, has-row}
 use Rattle.phases.proofs.Naming.{opens-few}
@@ -70,11 +72,11 @@ module _ (ls : List Line) where
       apart k l lt less same =
           ⊎-elim
           (λ a. ⊎-elim
-              (λ b. found .different .apart k l (a .0) (b .0) (sym (a .1) ∙ same ∙ b .1))
-              (λ b. absurd (push .new (k, a .0, sym (a .1) ∙ same ∙ b .1))) (cases l less))
+          (λ b. found .different .apart k l (a .0) (b .0) (sym (a .1) ∙ same ∙ b .1))
+          (λ b. absurd (push .new (k, a .0, sym (a .1) ∙ same ∙ b .1))) (cases l less))
           (λ a. ⊎-elim
-              (λ b. absurd (push .new (l, b .0, sym (b .1) ∙ sym same ∙ a .1)))
-              (λ b. a .0 ∙ sym (b .0)) (cases l less))
+          (λ b. absurd (push .new (l, b .0, sym (b .1) ∙ sym same ∙ a .1)))
+          (λ b. a .0 ∙ sym (b .0)) (cases l less))
           (cases k lt)
 
       pub pushed-found : Found ls q
@@ -101,13 +103,15 @@ module _ (ls : List Line) where
 
   pub lacking-stuck : (p : Phases) (F : ℕ) (e : PhaseRefusal) → Found ls p → Opened ls F → Lacking p F e → Stuck ls e
   lacking-stuck p F e found yet lack =
-      let full = lack .full in
-      (lack .is, overfull-outnumber (Opened ls) (phase-at p) 32 (record {
-        different = subst (Different (Opened ls) (phase-at p)) full (found .different);
-        another = F;
-        also = yet;
-        nowhere = λ k lt is. lack .new (k, omega arith, is);
-      }))
+      let full = lack .full in (
+        lack .is,
+        overfull-outnumber (Opened ls) (phase-at p) 32 (record {
+          different = subst (Different (Opened ls) (phase-at p)) full (found .different);
+          another = F;
+          also = yet;
+          nowhere = λ k lt is. lack .new (k, omega arith, is);
+        }),
+      )
 
   -- ---- when nothing is left to add
 
@@ -126,8 +130,17 @@ module _ (ls : List Line) where
     blank = went .found .blank;
   }
 
+  -- then no more phases are opened than there are places
+  pub not-refused : (p : Phases) → NoneMissing ls → OpenedBy ls p → PhasesAllowed ls
+  not-refused p none by number place =
+      ⊎-elim (λ h. none place (h .1 .missing)) (λ h. let over = filled-outnumber (Opened ls) (phase-at p) (p .count) (by .filled) 32 .0 (h .3) in let few = p .places .1 in omega arith)
+
   pub found-none : (p : Phases) → p .count ≡ 0 → Blank p → Found ls p
   found-none p none blank = record { different = record { apart = λ k l lt. absurd (omega arith); each = λ k lt. absurd (omega arith) }; blank = blank }
+
+-- nothing stands in a blank table
+pub blank-none : (k : ℕ) → 0 ≤ k → _≡_ {A = ℕ} (getD (replicate 32 0) k 0) 0
+blank-none k le = let long = length-replicate {A = ℕ} 32 0 in ⊎-elim (λ lt. getD-replicate 32 k 0 0 lt) (λ ge. getD-past (replicate 32 0) k 0 (omega arith)) (cases-lt k 32)
 
 -- ---- by the tables of a book
 
@@ -153,3 +166,14 @@ module _ (b : Book) where
       (λ less. subst (Followed (lines b) q) (sym (g .same k (omega arith))) (λ n s allows. holds-more p q (after n (phase-at p k)) g (closed k less n s allows)))
       (λ le. let e : k ≡ done = omega arith in subst (Followed (lines b) q) (sym (ap (phase-at q) e ∙ g .same done within)) now)
       (cases-lt k done)
+
+  -- where the rule at a place is a notice, the phase after it by that notice was added
+  pub went-rule : (p q : Phases) (F place : ℕ) (n : NoticeLine) (G : ℕ) → place < 64 → getD (b .rules) place rule.Free ≡ rule.Notice n → G ≡ after n F
+      → Found (lines b) p → Opened (lines b) G → Added p G q → Went (lines b) p q (RuleFollowed b q F place)
+  went-rule p q F place n G lt e is found yet added =
+      let went = added-went (lines b) p q G found yet added in
+      record {
+        found = went .found;
+        grown = went .grown;
+        reached = λ m f allows. let same : n ≡ m = cc in subst (Holds q) (is ∙ ap (λ o. after o F) same) (went .reached);
+      }

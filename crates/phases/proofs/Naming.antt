@@ -5,12 +5,11 @@ use mathlib.Core.List.{List}
 use Prim.Native.Nat.{ℕ, _+_, _/_, _%_, _^_, _<_, _≤_}
 use native.Mathlib.Omega.{arith}
 use native.Mathlib.Nat.{div-eq-of-lt, pow-le-pow-right, lt-of-lt-of-le}
-use lib.Dec.{eqb}
-use lib.ListN.{length, getD, take}
+use lib.ListN.{length, getD}
 use Rattle.std.specs.shelf.Lists.{Has}
 use Rattle.std.specs.declared.option.Option.the-variants.{Some}
 use Rattle.std.proofs.shelf.Elements.{all-has}
-use Rattle.std.proofs.shelf.Tests.{cases-lt, cases-eq, eqb-true}
+use Rattle.std.proofs.shelf.Tests.{cases-lt, eqb-true}
 use Rattle.text.specs.declared.line.OrderLine.{OrderLine}
 use Rattle.text.specs.declared.line.NoticeLine.{NoticeLine}
 use Rattle.text.specs.declared.line.Line.{Line}
@@ -24,7 +23,7 @@ use Rattle.book.specs.Lines.{lines}
 use Rattle.book.specs.Words.{number}
 use Rattle.book.proofs.Books.{within-lines}
 use Rattle.book.proofs.Standing.{open-stands, notice-stands, order-at, notice-at, free-number, numbers-once}
-use Rattle.phases.specs.Missing.{Mentions, Names, Accepted, Missing, NoneMissing, LeastMissing, Lowered, RuleMentions, RulesMention, OpensMention}
+use Rattle.phases.specs.Missing.{Mentions, Names, Accepted, NoneMissing, LeastMissing, Lowered, RuleMentions, RulesMention, OpensMention}
 use Rattle.phases.proofs.Rows.{row-has, has-row}
 
 -- ---- the model's number of a line is the book's
@@ -97,10 +96,10 @@ in-phase : (F m : ℕ) → F < 2 ^ 64 → InForce F m → m < 64
 in-phase F m lt h =
     ⊎-elim (λ less. less)
     (λ le.
-        let z : F / 2 ^ m ≡ 0 = div-eq-of-lt (lt-of-lt-of-le lt (pow-le-pow-right (omega arith) le)) in
-        let one = eqb-true (F / 2 ^ m % 2) 1 h in
-        let e : F / 2 ^ m % 2 ≡ 0 = ap (λ q. q % 2) z in
-        absurd (omega arith))
+    let z : F / 2 ^ m ≡ 0 = div-eq-of-lt (lt-of-lt-of-le lt (pow-le-pow-right (omega arith) le)) in
+    let one = eqb-true (F / 2 ^ m % 2) 1 h in
+    let e : F / 2 ^ m % 2 ≡ 0 = ap (λ q. q % 2) z in
+    absurd (omega arith))
     (cases-lt m 64)
 
 module _ (b : Book) where
@@ -148,19 +147,23 @@ module _ (b : Book) where
 
   -- the rule at a place, where that is a notice: its own number is accepted
   pub rule-lowered : (place : ℕ) (n : NoticeLine) (a r : ℕ) → place < 64 → getD (b .rules) place rule.Free ≡ rule.Notice n
-    → Lowered (lines b) (λ m. (n .loses .value ≡ m) ⊎ (n .gains .value ≡ m)) a r → Lowered (lines b) (RuleMentions b place) a r
+      → Lowered (lines b) (λ m. (n .loses .value ≡ m) ⊎ (n .gains .value ≡ m)) a r → Lowered (lines b) (RuleMentions b place) a r
   rule-lowered place n a r lt e =
       lowered-like (lines b) (λ m. (n .loses .value ≡ m) ⊎ (n .gains .value ≡ m)) (RuleMentions b place) a r
       (λ m p. (n, e, inr p))
       (λ m h none.
-          let same : h .0 ≡ n = let f = h .1 in cc in
-          ⊎-elim
-          (λ own. absurd (none (let s = notice-at b place (h .0) lt (h .1) in (Notice (h .0), s .0, ap Some own))))
-          (λ p. subst (λ o. (o .loses .value ≡ m) ⊎ (o .gains .value ≡ m)) same p) (h .2))
+      let same : h .0 ≡ n = let f = h .1 in cc in
+      ⊎-elim
+      (λ own. absurd (none (let s = notice-at b place (h .0) lt (h .1) in (Notice (h .0), s .0, ap Some own))))
+      (λ p. subst (λ o. (o .loses .value ≡ m) ⊎ (o .gains .value ≡ m)) same p) (h .2))
 
-  module _ (r : ℕ) (all : Lowered (lines b) AllMention 64 r) where
+  -- after the loops over the rules and over all the open lines
+  module _ (r i : ℕ) (le : i ≤ b .opening) (ge : b .opening ≤ i) (all : Lowered (lines b) (λ m. RulesMention b 64 m ⊎ OpensMention b i m) 64 r) where
     whole : Lowered (lines b) (Names (lines b)) 64 r
-    whole = lowered-like (lines b) AllMention (Names (lines b)) 64 r mention-names (λ m p none. names-mention m p) all
+    whole =
+        let e : i ≡ b .opening = omega arith in
+        lowered-like (lines b) AllMention (Names (lines b)) 64 r mention-names (λ m p none. names-mention m p)
+        (subst (λ k. Lowered (lines b) (λ m. RulesMention b 64 m ⊎ OpensMention b k m) 64 r) e all)
 
     pub least-found : r < 64 → LeastMissing (lines b) r
     least-found lt = record {

@@ -19,7 +19,7 @@ use Rattle.model.specs.Watch.{Leads}
 use Rattle.phases.specs.declared.refusal.PositionRefusal.{PositionRefusal}
 use Rattle.phases.specs.Refusals.{position-number, position-place}
 
--- a mode and wagons within their limits, and no more wagons than are asked about
+-- a mode and wagons within their limits, and at most 32 wagons
 pub record Fits (mode : ℕ) (lane : List ℕ) : Type 0 where
   pub mode-fits : mode ≤ 15
   pub wagons-fit : All (λ k. k ≤ 31) lane
@@ -41,9 +41,9 @@ Declined Opened x number place =
     × (((number ≡ 9) × (Fits (x .mode) (x .lane) → ⊥))
     ⊎ ((number ≡ 10) × (Fits (x .mode) (x .lane) × (Opened (x .phase) → ⊥))))
 
--- what is told of a position, where these phases are opened and these positions are held
+-- What is told of a position, where these phases are opened and these positions are held: a refusal, or whether it is held.
 abbrev pub Told : (ℕ → Type 0) → (Position → Type 0) → Position → Result Bool PositionRefusal → Type 0
 Told Opened Held x r =
     Cases r
-    (λ yes′. Fits (x .mode) (x .lane) × (Opened (x .phase) × Decides yes′ (Held x)))
+    (λ answer. Fits (x .mode) (x .lane) × (Opened (x .phase) × Decides answer (Held x)))
     (λ e. Declined Opened x (position-number e) (position-place e))

@@ -21,21 +21,29 @@ pub record Marks (s : List Bool) (P : ℕ → Type 0) : Type 0 where
   pub long : length s ≡ 64
   pub just : (t : ℕ) → Marked s t ↔ P t
 
--- a watch line goes from the mode by the wagon to the node t
-pub record Enters (ls : List Line) (mode wagon t : ℕ) : Type 0 where
-  pub line : WatchLine
-  pub stands : Stands ls (Watch line)
-  pub from : line .mode .value ≡ mode
-  pub by : line .wagon .value ≡ wagon
-  pub to : line .node .value ≡ t
+-- the line of an x stands that fits and goes to the node t
+abbrev pub Goes : {X : Type 0} → List Line → (X → Line) → (X → Type 0) → (X → ℕ) → ℕ → Type 0
+Goes {X} ls line fits to t = (x : X) × Stands ls (line x) × fits x × (to x ≡ t)
 
--- a link line goes from one of these nodes by the wagon to the node t
-pub record Links (ls : List Line) (P : ℕ → Type 0) (wagon t : ℕ) : Type 0 where
-  pub line : LinkLine
-  pub stands : Stands ls (Link line)
-  pub from : P (line .node .value)
-  pub by : line .wagon .value ≡ wagon
-  pub to : line .to .value ≡ t
+abbrev pub watch-fits : ℕ → ℕ → WatchLine → Type 0
+watch-fits mode wagon v = (v .mode .value ≡ mode) × (v .wagon .value ≡ wagon)
+
+abbrev pub watch-to : WatchLine → ℕ
+watch-to v = v .node .value
+
+-- a watch line goes from the mode by the wagon to the node
+abbrev pub Enters : List Line → ℕ → ℕ → ℕ → Type 0
+Enters ls mode wagon = Goes ls Watch (watch-fits mode wagon) watch-to
+
+abbrev pub link-fits : (ℕ → Type 0) → ℕ → LinkLine → Type 0
+link-fits P wagon k = P (k .node .value) × (k .wagon .value ≡ wagon)
+
+abbrev pub link-to : LinkLine → ℕ
+link-to k = k .to .value
+
+-- a link line goes from one of these nodes by the wagon to the node
+abbrev pub Links : List Line → (ℕ → Type 0) → ℕ → ℕ → Type 0
+Links ls P wagon = Goes ls Link (link-fits P wagon) link-to
 
 -- one of these nodes has an end line
 abbrev pub EndsIn : List Line → (ℕ → Type 0) → Type 0
@@ -50,15 +58,3 @@ LeadsFrom ls P w = (t : ℕ) × P t × Leads ls t w
 -- one of the first rows fits and goes to the node t
 abbrev pub ByRows : {X : Type 0} → List X → X → (X → Type 0) → (X → ℕ) → ℕ → ℕ → Type 0
 ByRows rows d fits to count t = (k : ℕ) × (k < count) × fits (getD rows k d) × (to (getD rows k d) ≡ t)
-
-abbrev pub watch-fits : ℕ → ℕ → WatchLine → Type 0
-watch-fits mode wagon v = (v .mode .value ≡ mode) × (v .wagon .value ≡ wagon)
-
-abbrev pub watch-to : WatchLine → ℕ
-watch-to v = v .node .value
-
-abbrev pub link-fits : (ℕ → Type 0) → ℕ → LinkLine → Type 0
-link-fits P wagon k = P (k .node .value) × (k .wagon .value ≡ wagon)
-
-abbrev pub link-to : LinkLine → ℕ
-link-to k = k .to .value

@@ -38,4 +38,8 @@ most-phases = 32
 abbrev pub PhasesRefused : List Line → ℕ → ℕ → Type 0
 PhasesRefused ls number place =
     ((number ≡ 6) × LeastMissing ls place)
-    ⊎ ((number ≡ 7) × ((place ≡ 0) × (NoneMissing ls × Outnumber (Opened ls) most-phases)))
+    ⊎ ((number ≡ 7) × (place ≡ 0) × NoneMissing ls × Outnumber (Opened ls) most-phases)
+
+-- no refusal is due
+abbrev pub PhasesAllowed : List Line → Type 0
+PhasesAllowed ls = (number place : ℕ) → PhasesRefused ls number place → ⊥

@@ -1,15 +1,14 @@
 // The least number that a notice or an open line names and under which nothing stands.
 ghost use mathlib.Core.Path.{_≡_};
-ghost use Prim.Native.Nat.{ℕ, _<_, _≤_};
+ghost use Prim.Native.Nat.{_<_, _≤_};
 ghost use Rattle.std.specs.Orderings.{Decides};
 ghost use Rattle.std.specs.Options.{Cases as BySome};
-ghost use Rattle.text.specs.declared.line.Line.the-variants.{Notice};
 ghost use Rattle.model.specs.Phases.{InForce};
 ghost use Rattle.book.specs.Lines.{lines};
-ghost use Rattle.phases.specs.Missing.{Mentions, RuleMentions, Accepted, LeastMissing, NoneMissing, Lowered};
+ghost use Rattle.phases.specs.Missing.{RuleMentions, Accepted, LeastMissing, NoneMissing, Lowered};
+use crate::sets::contains;
 use book::rule::Rule;
 use book::tables::Book;
-use crate::sets::contains;
 
 // How many numbers there are; as a least number, it stands for none.
 const NUMBERS: usize = 64;

@@ -1,9 +1,5 @@
 // The watch as an automaton: the nodes that a lane leads to, all at once.
-ghost use mathlib.Core.Path.{_≡_};
-ghost use mathlib.Core.Bool.{true, false};
-ghost use mathlib.Core.List.{List};
-ghost use Prim.Native.Nat.{ℕ, _<_, _≤_};
-ghost use lib.ListN.{length, getD};
+ghost use Prim.Native.Nat.{_≤_};
 ghost use Rattle.std.specs.Orderings.{Decides};
 ghost use Rattle.book.specs.Lines.{lines};
 ghost use Rattle.phases.specs.Nodes.{Marks, Marked, Enters, Links, EndsIn, LeadsFrom};

@@ -1,23 +1,19 @@
 // Listing the opened phases of a book.
-ghost use mathlib.Core.Path.{_≡_};
-ghost use mathlib.Core.List.{List};
-ghost use Prim.Native.Nat.{ℕ, _<_, _≤_};
+ghost use Prim.Native.Nat.{_<_};
 ghost use Rattle.std.specs.Results.{Cases};
 ghost use Rattle.std.specs.Options.{Cases as BySome};
-ghost use Rattle.text.specs.declared.line.Line.the-variants.{Notice, Open};
-ghost use Rattle.model.specs.Phases.{Stands, Allows, after, Opened};
+ghost use Rattle.model.specs.Phases.{Opened};
 ghost use Rattle.book.specs.Lines.{lines};
 ghost use Rattle.phases.specs.Table.{Holds, FirstAt, OpenedBy};
-ghost use Rattle.phases.specs.Missing.{NoneMissing};
-ghost use Rattle.phases.specs.Refusals.{PhasesRefused, phase-number, phase-place};
-ghost use Rattle.phases.specs.Growth.{Added, Lacking, Found, Went, Stuck, RuleFollowed, Followed, Closed, Started};
-use book::rule::Rule;
-use book::tables::Book;
+ghost use Rattle.phases.specs.Refusals.{PhasesRefused, PhasesAllowed, phase-number, phase-place};
+ghost use Rattle.phases.specs.Growth.{Added, Lacking, Found, Went, Stuck, Started, RuleFollowed, Followed, Closed};
 use crate::missing::least_missing;
 use crate::refusal::PhaseRefusal;
 use crate::sets::allowed;
 use crate::sets::phase_after;
 use crate::table::Phases;
+use book::rule::Rule;
+use book::tables::Book;
 
 impl Phases {
     // The place of a phase: the first, where it stands at several.
@@ -64,7 +60,12 @@ fn start(book: &Book, phases: &mut Phases) -> Result<(), PhaseRefusal>
 }
 
 // Adds the phase after this one by the rule at a place, if that is a notice which can be carried out.
-fn follow_rule(book: &Book, phases: &mut Phases, phase: u64, place: usize) -> Result<(), PhaseRefusal>
+fn follow_rule(
+    book: &Book,
+    phases: &mut Phases,
+    phase: u64,
+    place: usize,
+) -> Result<(), PhaseRefusal>
     requires place { ⌜ place < 64 ⌝ }
     requires found { ⌜ Found (lines (now book)) (now phases) ⌝ }
     requires opened { ⌜ Opened (lines (now book)) phase ⌝ }
@@ -117,13 +118,16 @@ fn close(book: &Book, phases: &mut Phases) -> Result<(), PhaseRefusal>
 // The opened phases of a book, which is only read.
 pub fn open_phases(book: &Book) -> Result<Phases, PhaseRefusal>
     ensures { λ r. ⌜ Cases r
-        (λ phases. NoneMissing (lines (now (book .entry))) × OpenedBy (lines (now (book .entry))) phases)
+        (λ phases. PhasesAllowed (lines (now (book .entry))) × OpenedBy (lines (now (book .entry))) phases)
         (λ e. PhasesRefused (lines (now (book .entry))) (phase-number e) (phase-place e)) ⌝ }
 {
     if let Some(number) = least_missing(book) {
         return Err(PhaseRefusal::NotAccepted(number));
     }
-    let mut phases = Phases { table: [0; 32], count: 0 };
+    let mut phases = Phases {
+        table: [0; 32],
+        count: 0,
+    };
     start(book, &mut phases)?;
     close(book, &mut phases)?;
     Ok(phases)

@@ -1,6 +1,4 @@
 // Whether the watch holds a position.
-ghost use mathlib.Core.Path.{_≡_};
-ghost use Prim.Native.Nat.{ℕ, _<_, _≤_};
 ghost use Rattle.std.specs.Orderings.{Decides};
 ghost use Rattle.model.specs.Phases.{Opened};
 ghost use Rattle.model.specs.Moves.{at};
@@ -8,10 +6,10 @@ ghost use Rattle.model.specs.Watch.{Watched};
 ghost use Rattle.book.specs.Lines.{lines};
 ghost use Rattle.phases.specs.Table.{Holds, OpenedBy};
 ghost use Rattle.phases.specs.Held.{Fits, Taken, Told};
-use book::tables::Book;
 use crate::nodes::takes;
 use crate::refusal::PositionRefusal;
 use crate::table::Phases;
+use book::tables::Book;
 
 // Whether the mode and each wagon are within their limits, and the lane is not too long.
 fn fits(mode: u8, lane: &[u8]) -> bool
@@ -30,7 +28,13 @@ fn fits(mode: u8, lane: &[u8]) -> bool
 
 // Whether the watch holds the position, by the book and its opened phases. With any other phases, those count as opened that
 // are in the table.
-pub fn held(book: &Book, phases: &Phases, mode: u8, phase: u64, lane: &[u8]) -> Result<bool, PositionRefusal>
+pub fn held(
+    book: &Book,
+    phases: &Phases,
+    mode: u8,
+    phase: u64,
+    lane: &[u8],
+) -> Result<bool, PositionRefusal>
     ensures table { λ r. ⌜ Told (Holds (now (phases .entry))) (Taken (lines (now (book .entry)))) (at mode phase (now (lane .entry))) r ⌝ }
     ensures opened { λ r. ⌜ (OpenedBy (lines (now (book .entry))) (now (phases .entry)) → Told (Opened (lines (now (book .entry)))) (Watched (lines (now (book .entry)))) (at mode phase (now (lane .entry))) r) ⌝ }
 {

@@ -58,7 +58,7 @@ module _ {G : Type 0} {m : Ghosts G} (lawful : Lawful m) where
   pub append-grade : (ms ns : List Move) → moves-grade m (ms ++ ns) ≡ m .join (moves-grade m ms) (moves-grade m ns)
   append-grade ms ns = ap (run-grade m) (map-append (λ x. x .toll) ms ns) ∙ run-grade-append lawful (map (λ x. x .toll) ms) (map (λ x. x .toll) ns)
 
-  rule-moves-grade : {ls : List Line} (r : Rule ls) → moves-grade m (rule-moves r) ≡ rule-grade m r
+  pub rule-moves-grade : {ls : List Line} (r : Rule ls) → moves-grade m (rule-moves r) ≡ rule-grade m r
   rule-moves-grade (link-rule l stands) = refl
   rule-moves-grade (watch-rule v F stands is-open) = refl
   rule-moves-grade (order-rule o F stands is-open in-force path) = lawful .unitl (m .priced (o .toll))

@@ -10,6 +10,7 @@ pub mod Shapes
 pub mod Local
 pub mod Furthest
 pub mod Right
+pub mod Rules
 pub mod Named
 pub mod Phases
 pub mod Decimals

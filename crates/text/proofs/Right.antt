@@ -8,19 +8,19 @@ use lib.Dec.{ltb}
 use lib.ListN.{length, take, drop}
 use Rattle.std.proofs.shelf.Lists.{append-assoc, take-append-drop, take-take}
 use Rattle.std.proofs.shelf.Tests.{cond-both, cases-order, ltb-true, ltb-false}
-use Rattle.std.proofs.shelf.Elements.{all-has}
-use Rattle.std.specs.shelf.Lists.{All}
+use Rattle.std.proofs.shelf.Elements.{all-has, has-append-left}
+use Rattle.std.specs.shelf.Lists.{All, Has}
 use Rattle.std.specs.declared.result.Result.the-variants.{Ok, Err}
 use Rattle.text.specs.declared.line.Line.{Line}
 use Rattle.text.specs.declared.refusal.LineRefusal.the-variants.{Syntax, TooLarge, NotRising}
-use Rattle.text.specs.Forms.{Form, text, forms, order-form}
-use Rattle.text.specs.Reading.{Outcome, by-forms}
-use Rattle.text.specs.Meaning.{Mark, Shape, Begins, Stops, FirstAt, Above, Falls, numbers, Within, Says, Reads-right}
+use Rattle.text.specs.Forms.{Form, text, forms, rule-forms, order-form}
+use Rattle.text.specs.Reading.{Outcome, by-forms, read-as, read}
+use Rattle.text.specs.Meaning.{Mark, Shape, Begins, Stops, FirstAt, Above, Falls, numbers, Within, HasForm, Says-as, Says, Reads-right}
 use Rattle.text.proofs.Fillings.{meant}
-use Rattle.text.proofs.Values.{filled-spelled, spelled-filled, small-form, text-form, formed, length-text}
+use Rattle.text.proofs.Values.{filled-spelled, spelled-filled, small-form, text-form, sized-form, formed, length-text}
 use Rattle.text.proofs.Filled.{Clear}
 use Rattle.text.proofs.Verdicts.{Not, Verdict, fine, large, falling, first-none, first-one}
-use Rattle.text.proofs.Furthest.{syntax-cases, shape, forms-stop, forms-shape, form-of, form-verdict, forms-own, Good, forms-good, forms-apart}
+use Rattle.text.proofs.Furthest.{syntax-cases, shape, forms-stop, forms-shape, form-of, form-verdict, forms-own, Good, Apart, forms-good, forms-apart}
 
 -- no number is above its limit, and none falls
 abbrev pub Sound : List Mark → Type 0
@@ -63,84 +63,127 @@ stops-once fs s q q′ a b =
     (cases-order q q′)
 
 -- the line of a text that has a form
-abbrev line-of : {s : List ℕ} → Shape forms s → Line
+abbrev line-of : {fs : List Form} {s : List ℕ} → Shape fs s → Line
 line-of h = h .form .line (meant (h .form .parts) (h .filling))
 
-module _ (s : List ℕ) (short : length s ≤ 512) where
-  shape-verdict : (h : Shape forms s) → Verdict (line-of h) (numbers h) (by-forms forms s)
-  shape-verdict h =
+-- some of the seven forms, and one of them at least
+pub record Chosen (fs : List Form) : Type 0 where
+  pub among : (f : Form) → Has fs f → Has forms f
+  pub good : All Good fs
+  pub apart : Apart fs
+  pub one : Form
+  pub one-among : Has fs one
+
+module _ (fs : List Form) (c : Chosen fs) where
+  module _ (s : List ℕ) (short : length s ≤ 512) where
+    shape-verdict : (h : Shape fs s) → Verdict (line-of h) (numbers h) (by-forms fs s)
+    shape-verdict h =
+        let f = h .form in
+        let own = forms-own fs (c .good) (c .apart) s short f (h .among) (h .filling, (h .proper, h .is)) in
+        let good = all-has Good fs f (c .good) (h .among) in
+        subst (Verdict (line-of h) (numbers h)) (sym own) (form-verdict f good s short (h .filling) (h .proper) (h .is))
+
+    shape-found : Clear (by-forms fs s) → Shape fs s
+    shape-found clear =
+        let (f, has, e) = forms-shape fs s clear in
+        shape fs f has s (form-of f s (subst Clear (sym e) clear))
+
+    place-found : (q : ℕ) → by-forms fs s ≡ Err (Syntax q) → Stops fs s q
+    place-found q e = forms-stop fs (c .good) s short (c .one) (c .one-among) q e
+
+    syntax-is : (q : ℕ) → Stops fs s q → Err (Syntax q) ≡ by-forms fs s
+    syntax-is q st =
+        ⊎-elim
+        (λ (p, e). ap (λ (n : ℕ). Err (Syntax n)) (stops-once fs s q p st (place-found p e)) ∙ sym e)
+        (λ clear. absurd (st .whole (shape-found clear)))
+        (syntax-cases (by-forms fs s))
+
+  -- a text of a form with sound numbers is the text of its line
+  fine-says : (s : List ℕ) (h : Shape fs s) → Sound (numbers h) → Says-as fs s (Ok (line-of h))
+  fine-says s h sound =
       let f = h .form in
-      let own = forms-own forms forms-good forms-apart s short f (h .among) (h .filling, (h .proper, h .is)) in
-      let good = all-has Good forms f forms-good (h .among) in
-      subst (Verdict (line-of h) (numbers h)) (sym own) (form-verdict f good s short (h .filling) (h .proper) (h .is))
+      let among = c .among f (h .among) in
+      let v = meant (f .parts) (h .filling) in
+      let (e, sized) = filled-spelled (f .parts) (small-form f among) (h .filling) (h .proper) 1 (sound .0) (sound .1) in
+      let (w, t) = text-form f among v sized in
+      (w, h .is ∙ e ∙ sym t, (f, h .among, v, refl))
 
-  shape-found : Clear (by-forms forms s) → Shape forms s
-  shape-found c =
-      let (f, has, e) = forms-shape forms s c in
-      shape forms f has s (form-of f s (subst Clear (sym e) c))
+  -- and the text of a line is such a text
+  text-shape : (l : Line) → Within l → HasForm fs l → (h : Shape fs (text l)) × Sound (numbers h) × (line-of h ≡ l)
+  text-shape l w (f, has, v, e) =
+      let among = c .among f has in
+      let sized = sized-form f among v (subst Within (sym e) w) in
+      let (r, (proper, (same, (m, sound)))) = spelled-filled (f .parts) (small-form f among) v sized in
+      (shape fs f has (text l) (r, (proper, sym (ap text e) ∙ text-form f among v sized .1 ∙ sym same)), sound 1, ap (f .line) m ∙ e)
 
-  place-found : (q : ℕ) → by-forms forms s ≡ Err (Syntax q) → Stops forms s q
-  place-found q e = forms-stop forms forms-good s short order-form (0, omega arith, λ d. refl) q e
+  verdict-says : (s : List ℕ) → length s ≤ 512 → (h : Shape fs s) (x : Outcome) → Verdict (line-of h) (numbers h) x → Says-as fs s x
+  verdict-says s le h x (fine a b e) = subst (Says-as fs s) (sym e) (fine-says s h (a, b))
+  verdict-says s le h x (large q f e) = subst (Says-as fs s) (sym e) (le, (h, f))
+  verdict-says s le h x (falling q a f e) = subst (Says-as fs s) (sym e) (le, (h, (a, f)))
 
-  syntax-is : (q : ℕ) → Stops forms s q → Err (Syntax q) ≡ by-forms forms s
-  syntax-is q st =
+  -- what the forms make of a text of at most 512 bytes, it says
+  forms-say : (s : List ℕ) → length s ≤ 512 → Says-as fs s (by-forms fs s)
+  forms-say s le =
       ⊎-elim
-      (λ (p, e). ap (λ (n : ℕ). Err (Syntax n)) (stops-once forms s q p st (place-found p e)) ∙ sym e)
-      (λ c. absurd (st .whole (shape-found c)))
-      (syntax-cases (by-forms forms s))
+      (λ (q, e). subst (Says-as fs s) (sym e) (inr (le, place-found s le q e)))
+      (λ clear. let h = shape-found s le clear in verdict-says s le h (by-forms fs s) (shape-verdict s le h))
+      (syntax-cases (by-forms fs s))
 
--- a text of a form with sound numbers is the text of its line
-fine-says : (s : List ℕ) (h : Shape forms s) → Sound (numbers h) → Within (line-of h) × (s ≡ text (line-of h))
-fine-says s h sound =
-    let f = h .form in
-    let (e, sized) = filled-spelled (f .parts) (small-form f (h .among)) (h .filling) (h .proper) 1 (sound .0) (sound .1) in
-    let (w, t) = text-form f (h .among) (meant (f .parts) (h .filling)) sized in
-    (w, h .is ∙ e ∙ sym t)
+  text-reads : (l : Line) → Within l → HasForm fs l → Ok l ≡ by-forms fs (text l)
+  text-reads l w f =
+      let (h, sound, e) = text-shape l w f in
+      ap Ok (sym e) ∙ fine-is (line-of h) (numbers h) (by-forms fs (text l)) sound (shape-verdict (text l) (length-text l w) h)
 
--- and the text of a line is such a text
-text-shape : (l : Line) → Within l → (h : Shape forms (text l)) × Sound (numbers h) × (line-of h ≡ l)
-text-shape l w =
-    let c = formed l w in
-    let f = c .form in
-    let (r, (proper, (e, (m, sound)))) = spelled-filled (f .parts) (small-form f (c .among)) (c .values) (c .sized) in
-    (shape forms f (c .among) (text l) (r, (proper, c .text-is ∙ sym e)), sound 1, ap (f .line) m ∙ c .line-is)
+  -- and it says nothing else
+  forms-only : (s : List ℕ) → length s ≤ 512 → (x : Outcome) → Says-as fs s x → x ≡ by-forms fs s
+  forms-only s le (Ok l) (w, e, f) = text-reads l w f ∙ ap (by-forms fs) (sym e)
+  forms-only s le (Err (Syntax q)) (inl long) = absurd (omega (arith, long .0))
+  forms-only s le (Err (Syntax q)) (inr st) = syntax-is s le q (st .1)
+  forms-only s le (Err (TooLarge q)) (_, (h, f)) = large-is (line-of h) (numbers h) (by-forms fs s) q f (shape-verdict s le h)
+  forms-only s le (Err (NotRising q)) (_, (h, (a, f))) = falling-is (line-of h) (numbers h) (by-forms fs s) q a f (shape-verdict s le h)
 
-verdict-says : (s : List ℕ) → length s ≤ 512 → (h : Shape forms s) (x : Outcome) → Verdict (line-of h) (numbers h) x → Says s x
-verdict-says s le h x (fine a b e) = subst (Says s) (sym e) (fine-says s h (a, b))
-verdict-says s le h x (large q f e) = subst (Says s) (sym e) (le, (h, f))
-verdict-says s le h x (falling q a f e) = subst (Says s) (sym e) (le, (h, (a, f)))
+  -- a longer text is refused at its byte 513
+  long-only : (s : List ℕ) → 512 < length s → (x : Outcome) → Says-as fs s x → x ≡ Err (Syntax 513)
+  long-only s lt (Ok l) (w, e, f) = absurd (omega (arith, length-text l w, ap length e))
+  long-only s lt (Err (Syntax q)) (inl long) = ap (λ (n : ℕ). Err (Syntax n)) (long .1)
+  long-only s lt (Err (Syntax q)) (inr st) = absurd (omega (arith, st .0))
+  long-only s lt (Err (TooLarge q)) (le, h) = absurd (omega arith)
+  long-only s lt (Err (NotRising q)) (le, h) = absurd (omega arith)
 
--- what the forms make of a text of at most 512 bytes, it says
-forms-say : (s : List ℕ) → length s ≤ 512 → Says s (by-forms forms s)
-forms-say s le =
-    ⊎-elim
-    (λ (q, e). subst (Says s) (sym e) (inr (le, place-found s le q e)))
-    (λ c. let h = shape-found s le c in verdict-says s le h (by-forms forms s) (shape-verdict s le h))
-    (syntax-cases (by-forms forms s))
+  pub reads-as : (s : List ℕ) → Says-as fs s (read-as fs s) × ((x : Outcome) → Says-as fs s x → x ≡ read-as fs s)
+  reads-as s =
+      cond-both (ltb 512 (length s)) (Err (Syntax 513)) (by-forms fs s) (λ y. Says-as fs s y × ((x : Outcome) → Says-as fs s x → x ≡ y))
+      (λ long. let lt = ltb-true 512 (length s) long in (inl (lt, refl), long-only s lt))
+      (λ short. let le = ltb-false 512 (length s) short in (forms-say s le, forms-only s le))
 
-text-reads : (l : Line) → Within l → Ok l ≡ by-forms forms (text l)
-text-reads l w =
-    let (h, sound, e) = text-shape l w in
-    ap Ok (sym e) ∙ fine-is (line-of h) (numbers h) (by-forms forms (text l)) sound (shape-verdict (text l) (length-text l w) h)
+all-chosen : Chosen forms
+all-chosen = record {
+  among = λ f has. has;
+  good = forms-good;
+  apart = forms-apart;
+  one = order-form;
+  one-among = (0, omega arith, λ d. refl);
+}
 
--- and it says nothing else
-forms-only : (s : List ℕ) → length s ≤ 512 → (x : Outcome) → Says s x → x ≡ by-forms forms s
-forms-only s le (Ok l) (w, e) = text-reads l w ∙ ap (by-forms forms) (sym e)
-forms-only s le (Err (Syntax q)) (inl long) = absurd (omega (arith, long .0))
-forms-only s le (Err (Syntax q)) (inr st) = syntax-is s le q (st .1)
-forms-only s le (Err (TooLarge q)) (_, (h, f)) = large-is (line-of h) (numbers h) (by-forms forms s) q f (shape-verdict s le h)
-forms-only s le (Err (NotRising q)) (_, (h, (a, f))) = falling-is (line-of h) (numbers h) (by-forms forms s) q a f (shape-verdict s le h)
+pub rules-chosen : Chosen rule-forms
+rules-chosen = record {
+  among = λ f has. has-append-left rule-forms (drop 2 forms) f has;
+  good = (forms-good .0, (forms-good .1 .0, tt));
+  apart = omega arith;
+  one = order-form;
+  one-among = (0, omega arith, λ d. refl);
+}
 
--- a longer text is refused at its byte 513
-long-only : (s : List ℕ) → 512 < length s → (x : Outcome) → Says s x → x ≡ Err (Syntax 513)
-long-only s lt (Ok l) (w, e) = absurd (omega (arith, length-text l w, ap length e))
-long-only s lt (Err (Syntax q)) (inl long) = ap (λ (n : ℕ). Err (Syntax n)) (long .1)
-long-only s lt (Err (Syntax q)) (inr st) = absurd (omega (arith, st .0))
-long-only s lt (Err (TooLarge q)) (le, h) = absurd (omega arith)
-long-only s lt (Err (NotRising q)) (le, h) = absurd (omega arith)
+-- every line within the limits has one of the seven forms
+says-all : (s : List ℕ) (x : Outcome) → Says s x → Says-as forms s x
+says-all s (Ok l) (w, e) = let c = formed l w in (w, e, (c .form, c .among, c .values, c .line-is))
+says-all s (Err e) h = h
+
+all-says : (s : List ℕ) (x : Outcome) → Says-as forms s x → Says s x
+all-says s (Ok l) (w, e, f) = (w, e)
+all-says s (Err e) h = h
 
 pub reads-right : Reads-right
 reads-right s =
-    cond-both (ltb 512 (length s)) (Err (Syntax 513)) (by-forms forms s) (λ y. Says s y × ((x : Outcome) → Says s x → x ≡ y))
-    (λ long. let lt = ltb-true 512 (length s) long in (inl (lt, refl), long-only s lt))
-    (λ short. let le = ltb-false 512 (length s) short in (forms-say s le, forms-only s le))
+    let (says, alone) = reads-as forms all-chosen s in
+    (all-says s (read s) says, λ x h. alone x (says-all s x h))

@@ -324,6 +324,16 @@ text-forms =
 pub text-form : (f : Form) → Has forms f → Tells f
 text-form f among = all-has Tells forms f text-forms among
 
+-- and the values are within the limits where the line is
+abbrev pub Limits : Form → Type 0
+Limits f = (v : Values (f .parts)) → Within (f .line v) → Sized (f .parts) v
+
+sized-forms : All Limits forms
+sized-forms = ((λ v w. tt), ((λ v w. tt), ((λ v w. (w, tt)), ((λ v w. tt), ((λ v w. tt), ((λ v w. tt), ((λ v w. tt), tt)))))))
+
+pub sized-form : (f : Form) → Has forms f → Limits f
+sized-form f among = all-has Limits forms f sized-forms among
+
 -- a line as the values of a form
 pub record Formed (l : Line) : Type 0 where
   pub form : Form

@@ -125,6 +125,10 @@ bare-form = record { parts = word (codes "(bare ") ∷ bare-tail; line = bare-of
 abbrev pub forms : List Form
 forms = order-form ∷ notice-form ∷ open-form ∷ watch-form ∷ link-form ∷ end-form ∷ bare-form ∷ []
 
+-- the forms of what can be carried out
+abbrev pub rule-forms : List Form
+rule-forms = order-form ∷ notice-form ∷ []
+
 -- the wagons as a list, the first on top
 abbrev pub listed : Wagons → List (UpTo 31)
 listed Zero = []

@@ -9,6 +9,7 @@ use Rattle.std.specs.shelf.Lists.{All, Has, joined}
 use Rattle.std.specs.declared.result.Result.the-variants.{Ok, Err}
 use Rattle.text.specs.declared.line.Line.{Line}
 use Rattle.text.specs.declared.line.Line.the-variants.{Order, Notice, Open, Watch, Link, End, Bare}
+use Rattle.text.specs.declared.refusal.LineRefusal.{LineRefusal}
 use Rattle.text.specs.declared.refusal.LineRefusal.the-variants.{Syntax, TooLarge, NotRising}
 use Rattle.text.specs.Numerals.{Numeral, value}
 use Rattle.text.specs.Forms.{Part, Form, Values, word, number, wagons, rising, spelled, text, forms}
@@ -109,13 +110,26 @@ Within (Link l) = Unit {0}
 Within (End t) = Unit {0}
 Within (Bare p) = Unit {0}
 
--- what a text says, and just this
+-- a line of one of these forms
+abbrev pub HasForm : List Form → Line → Type 0
+HasForm fs l = (f : Form) × Has fs f × (v : Values (f .parts)) × (f .line v ≡ l)
+
+-- why and where a text is refused, where it may have any of these forms
+abbrev pub Refuses : List Form → List ℕ → LineRefusal → Type 0
+Refuses fs s (Syntax q) = ((512 < length s) × (q ≡ 513)) ⊎ ((length s ≤ 512) × Stops fs s q)
+Refuses fs s (TooLarge q) = (length s ≤ 512) × ((h : Shape fs s) × FirstAt Above (numbers h) q)
+Refuses fs s (NotRising q) =
+    (length s ≤ 512) × ((h : Shape fs s) × ((All (λ m. Above m → ⊥) (numbers h)) × FirstAt Falls (numbers h) q))
+
+-- what a text says, and just this, where it may have any of these forms
+abbrev pub Says-as : List Form → List ℕ → Outcome → Type 0
+Says-as fs s (Ok l) = Within l × (s ≡ text l) × HasForm fs l
+Says-as fs s (Err e) = Refuses fs s e
+
+-- what a text says, and just this: every line within the limits has one of the seven forms
 abbrev pub Says : List ℕ → Outcome → Type 0
 Says s (Ok l) = Within l × (s ≡ text l)
-Says s (Err (Syntax q)) = ((512 < length s) × (q ≡ 513)) ⊎ ((length s ≤ 512) × Stops forms s q)
-Says s (Err (TooLarge q)) = (length s ≤ 512) × ((h : Shape forms s) × FirstAt Above (numbers h) q)
-Says s (Err (NotRising q)) =
-    (length s ≤ 512) × ((h : Shape forms s) × ((All (λ m. Above m → ⊥) (numbers h)) × FirstAt Falls (numbers h) q))
+Says s (Err e) = Refuses forms s e
 
 -- reading a text gives what it says, and nothing else is said
 abbrev pub Reads-right : Type 0

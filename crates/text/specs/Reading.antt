@@ -8,13 +8,16 @@ use Rattle.std.specs.declared.result.Result.{Result}
 use Rattle.std.specs.declared.result.Result.the-variants.{Ok, Err}
 use Rattle.grade.specs.declared.upto.UpTo.{UpTo}
 use Rattle.text.specs.declared.line.Line.{Line}
+use Rattle.text.specs.declared.line.Line.the-variants.{Order, Notice, Open, Watch, Link, End, Bare}
+use Rattle.text.specs.declared.line.Rule.{Rule}
+use Rattle.text.specs.declared.line.Rule.the-variants as rule
 use Rattle.text.specs.declared.line.Wagons.{Wagons}
 use Rattle.text.specs.declared.line.Wagons.the-variants.{Zero, One, Two}
 use Rattle.text.specs.declared.refusal.LineRefusal.{LineRefusal}
 use Rattle.text.specs.declared.refusal.LineRefusal.the-variants.{Syntax, TooLarge, NotRising}
 use Rattle.text.specs.Numerals.{Taken, numeral, starts, kept}
 use Rattle.text.specs.Phases.{with-all}
-use Rattle.text.specs.Forms.{Part, Form, Values, word, number, wagons, rising, forms}
+use Rattle.text.specs.Forms.{Part, Form, Values, word, number, wagons, rising, forms, rule-forms}
 
 abbrev pub Outcome : Type 0
 Outcome = Result Line LineRefusal
@@ -98,3 +101,27 @@ read-as fs s = cond (ltb 512 (length s)) (Err (Syntax 513)) (by-forms fs s)
 
 abbrev pub read : List ℕ → Outcome
 read s = read-as forms s
+
+-- an order or a notice is a line
+abbrev pub rule-line : Rule → Line
+rule-line (rule.Order o) = Order o
+rule-line (rule.Notice n) = Notice n
+
+abbrev pub as-line : Result Rule LineRefusal → Outcome
+as-line (Ok r) = Ok (rule-line r)
+as-line (Err e) = Err e
+
+-- Back again. No other line has one of the two forms, so what is said of the others does not occur.
+abbrev pub as-rule : Outcome → Result Rule LineRefusal
+as-rule (Ok (Order o)) = Ok (rule.Order o)
+as-rule (Ok (Notice n)) = Ok (rule.Notice n)
+as-rule (Ok (Open F)) = Err (Syntax 1)
+as-rule (Ok (Watch w)) = Err (Syntax 1)
+as-rule (Ok (Link l)) = Err (Syntax 1)
+as-rule (Ok (End t)) = Err (Syntax 1)
+as-rule (Ok (Bare p)) = Err (Syntax 1)
+as-rule (Err e) = Err e
+
+-- what a line of text says, where it may be an order or a notice only
+abbrev pub read-rule : List ℕ → Result Rule LineRefusal
+read-rule s = as-rule (read-as rule-forms s)

@@ -58,9 +58,13 @@ pub record NumberOff (before after : LineReader) (n : ℕ) : Type 0 where
   pub over : after .over ≡ before .over
   pub falls : after .falls ≡ before .falls
 
+-- s does not begin with w
+abbrev pub Lacks : List ℕ → List ℕ → Type 0
+Lacks w s = (t : List ℕ) → s ≡ w ++ t → ⊥
+
 -- the rest r of a line s behind w, where s begins with w
 abbrev pub Behind : List ℕ → List ℕ → Option (RefT (List ℕ)) → Type 0
-Behind w s None = (t : List ℕ) → s ≡ w ++ t → ⊥
+Behind w s None = Lacks w s
 Behind w s (Some r) = s ≡ w ++ r .now
 
 -- how many bytes w and s have in common from the front

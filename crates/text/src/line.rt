@@ -60,6 +60,13 @@ pub struct LinkLine {
     pub to: Node,
 }
 
+// An order or a notice: what can be carried out.
+#[derive(Clone, Copy)]
+pub enum Rule {
+    Order(OrderLine),
+    Notice(NoticeLine),
+}
+
 #[derive(Clone, Copy)]
 pub enum Line {
     Order(OrderLine),

@@ -2,23 +2,25 @@
 ghost use mathlib.Core.Path.{_≡_};
 ghost use mathlib.Core.Bool.{Bool, false, cond};
 ghost use mathlib.Core.List.{List, [], _∷_};
-ghost use Prim.Native.Nat.{ℕ, suc, _+_, _^_};
+ghost use Prim.Native.Nat.{ℕ, suc, max, _+_, _^_, _≤_};
+ghost use lib.ListN.{length};
 ghost use lib.Chars.{codes};
 ghost use Rattle.std.specs.Results.{Cases};
-ghost use Rattle.std.specs.declared.result.Result.the-variants.{Err};
+ghost use Rattle.std.specs.declared.result.Result.the-variants.{Ok, Err};
 ghost use Rattle.grade.specs.declared.upto.UpTo.{UpTo};
 ghost use Rattle.text.specs.declared.line.Line.{Line};
-ghost use Rattle.text.specs.declared.refusal.LineRefusal.the-variants.{Syntax};
+ghost use Rattle.text.specs.declared.refusal.LineRefusal.the-variants.{Syntax, NotRising};
 ghost use Rattle.text.specs.Numerals.{kept, starts};
-ghost use Rattle.text.specs.Forms.{Part, Values, word, number, wagons, rising, toll-parts, bare-tail, bare-of, end-tail, end-of, watch-tail, watch-of, link-tail, link-of, order-tail, order-of, notice-tail, notice-of, open-tail, open-of};
-ghost use Rattle.text.specs.Reading.{Next, Outcome, noted, read};
-ghost use Rattle.text.specs.Meaning.{Says};
-ghost use Rattle.text.specs.Steps.{DigitsOff, NumberOff, scanned, word-then, number-then, goes-on, numbers-then, another-then, after-another, Behind, agree, furthest};
+ghost use Rattle.text.specs.Forms.{Part, Values, word, number, wagons, rising, toll-parts, bare-tail, bare-of, end-tail, end-of, watch-tail, watch-of, link-tail, link-of, order-tail, order-of, notice-tail, notice-of, open-tail, open-of, rule-forms};
+ghost use Rattle.text.specs.Reading.{Next, Outcome, noted, read, read-as, as-line, read-rule};
+ghost use Rattle.text.specs.Meaning.{Says, Says-as};
+ghost use Rattle.text.specs.Steps.{DigitsOff, NumberOff, scanned, word-then, number-then, goes-on, numbers-then, another-then, after-another, Behind, agree, furthest, Lacks};
 use crate::line::Line;
 use crate::line::LinkLine;
 use crate::line::NoticeLine;
 use crate::line::Number;
 use crate::line::OrderLine;
+use crate::line::Rule;
 use crate::line::Wagons;
 use crate::line::WatchLine;
 use crate::line_reader::LineReader;
@@ -122,9 +124,11 @@ impl<'a> LineReader<'a> {
         Ok((a, b))
     }
 
-    // The line ends here and says this, where no number is above its limit and none fails to rise.
-    fn end(&mut self, line: Line) -> Result<Line, LineRefusal>
-        ensures { λ r. ⌜ r ≡ scanned [] (λ _. line) (now (self .entry)) ⌝ }
+    // The line ends here, no number is above its limit, and none fails to rise.
+    fn end(&mut self) -> Result<(), LineRefusal>
+        ensures { λ r. ⌜ Cases r
+            (λ _. (line : Values [] → Line) → scanned [] line (now (self .entry)) ≡ Ok (line tt))
+            (λ e. (line : Values [] → Line) → scanned [] line (now (self .entry)) ≡ Err e) ⌝ }
     {
         if !self.rest.is_empty() {
             return Err(LineRefusal::Syntax(self.place));
@@ -135,7 +139,7 @@ impl<'a> LineReader<'a> {
         if self.falls != 0 {
             return Err(LineRefusal::NotRising(self.falls));
         }
-        Ok(line)
+        Ok(())
     }
 
     // Takes a blank off the line, if one stands next.
@@ -213,8 +217,10 @@ impl<'a> LineReader<'a> {
     }
 
     // What stands behind `(order `.
-    fn order(&mut self) -> Result<Line, LineRefusal>
-        ensures { λ r. ⌜ r ≡ scanned order-tail order-of (now (self .entry)) ⌝ }
+    fn order(&mut self) -> Result<OrderLine, LineRefusal>
+        ensures { λ r. ⌜ Cases r
+            (λ o. scanned order-tail order-of (now (self .entry)) ≡ Ok (Line.Order o))
+            (λ e. scanned order-tail order-of (now (self .entry)) ≡ Err e) ⌝ }
     {
         let number = self.number::<63>()?;
         self.word(b" (")?;
@@ -224,19 +230,22 @@ impl<'a> LineReader<'a> {
         let wagons = self.wagons()?;
         self.word(b")")?;
         let toll = self.toll()?;
-        self.end(Line::Order(OrderLine {
+        self.end()?;
+        Ok(OrderLine {
             number,
             mode,
             wagon,
             to,
             wagons,
             toll,
-        }))
+        })
     }
 
     // What stands behind `(notice `.
-    fn notice(&mut self) -> Result<Line, LineRefusal>
-        ensures { λ r. ⌜ r ≡ scanned notice-tail notice-of (now (self .entry)) ⌝ }
+    fn notice(&mut self) -> Result<NoticeLine, LineRefusal>
+        ensures { λ r. ⌜ Cases r
+            (λ n. scanned notice-tail notice-of (now (self .entry)) ≡ Ok (Line.Notice n))
+            (λ e. scanned notice-tail notice-of (now (self .entry)) ≡ Err e) ⌝ }
     {
         let number = self.number::<63>()?;
         self.word(b" ")?;
@@ -245,14 +254,15 @@ impl<'a> LineReader<'a> {
         let (loses, gains) = self.pair::<63, 63>()?;
         self.word(b")")?;
         let toll = self.toll()?;
-        self.end(Line::Notice(NoticeLine {
+        self.end()?;
+        Ok(NoticeLine {
             number,
             mode,
             to,
             loses,
             gains,
             toll,
-        }))
+        })
     }
 
     // What stands behind `(open`.
@@ -261,7 +271,8 @@ impl<'a> LineReader<'a> {
     {
         let phase = self.rising()?;
         self.word(b")")?;
-        self.end(Line::Open(phase))
+        self.end()?;
+        Ok(Line::Open(phase))
     }
 
     // What stands behind `(watch `.
@@ -272,7 +283,8 @@ impl<'a> LineReader<'a> {
         self.word(b" ")?;
         let node = self.number::<63>()?;
         self.word(b")")?;
-        self.end(Line::Watch(WatchLine { mode, wagon, node }))
+        self.end()?;
+        Ok(Line::Watch(WatchLine { mode, wagon, node }))
     }
 
     // What stands behind `(link `.
@@ -283,7 +295,8 @@ impl<'a> LineReader<'a> {
         self.word(b" ")?;
         let to = self.number::<63>()?;
         self.word(b")")?;
-        self.end(Line::Link(LinkLine { node, wagon, to }))
+        self.end()?;
+        Ok(Line::Link(LinkLine { node, wagon, to }))
     }
 
     // What stands behind `(end `.
@@ -292,7 +305,8 @@ impl<'a> LineReader<'a> {
     {
         let node = self.number::<63>()?;
         self.word(b")")?;
-        self.end(Line::End(node))
+        self.end()?;
+        Ok(Line::End(node))
     }
 
     // What stands behind `(bare `.
@@ -301,7 +315,8 @@ impl<'a> LineReader<'a> {
     {
         let mode = self.number::<15>()?;
         self.word(b")")?;
-        self.end(Line::Bare(mode))
+        self.end()?;
+        Ok(Line::Bare(mode))
     }
 }
 
@@ -434,37 +449,12 @@ fn unnamed(line: &[u8]) -> usize
     1 + most
 }
 
-// What the form that the line names makes of it.
-fn read_named(line: &[u8]) -> Result<Line, LineRefusal>
+// What a form of the watch makes of a line that names no other form.
+fn read_watch_form(line: &[u8]) -> Result<Line, LineRefusal>
+    requires short { ⌜ length (now line) ≤ 512 ⌝ }
+    requires other { ⌜ Lacks (codes "(order ") (now line) × (Lacks (codes "(notice ") (now line) × Lacks (codes "(open") (now line)) ⌝ }
     ensures { λ r. ⌜ r ≡ read (now (line .entry)) ⌝ }
 {
-    if line.len() > 512 {
-        return Err(LineRefusal::Syntax(513));
-    }
-    if let Some(rest) = after_order(line) {
-        return LineReader {
-            rest,
-            place: 8,
-            over: 0,
-            falls: 0,
-        }.order();
-    }
-    if let Some(rest) = after_notice(line) {
-        return LineReader {
-            rest,
-            place: 9,
-            over: 0,
-            falls: 0,
-        }.notice();
-    }
-    if let Some(rest) = after_open(line) {
-        return LineReader {
-            rest,
-            place: 6,
-            over: 0,
-            falls: 0,
-        }.phase();
-    }
     if let Some(rest) = after_watch(line) {
         return LineReader {
             rest,
@@ -500,6 +490,77 @@ fn read_named(line: &[u8]) -> Result<Line, LineRefusal>
     Err(LineRefusal::Syntax(unnamed(line)))
 }
 
+// What the form that the line names makes of it.
+fn read_named(line: &[u8]) -> Result<Line, LineRefusal>
+    ensures { λ r. ⌜ r ≡ read (now (line .entry)) ⌝ }
+{
+    if line.len() > 512 {
+        return Err(LineRefusal::Syntax(513));
+    }
+    if let Some(rest) = after_order(line) {
+        let order = LineReader {
+            rest,
+            place: 8,
+            over: 0,
+            falls: 0,
+        }.order()?;
+        return Ok(Line::Order(order));
+    }
+    if let Some(rest) = after_notice(line) {
+        let notice = LineReader {
+            rest,
+            place: 9,
+            over: 0,
+            falls: 0,
+        }.notice()?;
+        return Ok(Line::Notice(notice));
+    }
+    if let Some(rest) = after_open(line) {
+        return LineReader {
+            rest,
+            place: 6,
+            over: 0,
+            falls: 0,
+        }.phase();
+    }
+    read_watch_form(line)
+}
+
+// The first place at which neither of these names goes on.
+fn unnamed_rule(line: &[u8]) -> usize
+    ensures { λ r. ⌜ r ≡ 1 + max (agree (codes "(order ") (now (line .entry))) (agree (codes "(notice ") (now (line .entry))) ⌝ }
+{
+    1 + agreeing(b"(order ", line).max(agreeing(b"(notice ", line))
+}
+
+// What the form that the line names makes of it, where there are orders and notices only.
+fn read_named_rule(line: &[u8]) -> Result<Rule, LineRefusal>
+    ensures { λ r. ⌜ as-line r ≡ read-as rule-forms (now (line .entry)) ⌝ }
+{
+    if line.len() > 512 {
+        return Err(LineRefusal::Syntax(513));
+    }
+    if let Some(rest) = after_order(line) {
+        let order = LineReader {
+            rest,
+            place: 8,
+            over: 0,
+            falls: 0,
+        }.order()?;
+        return Ok(Rule::Order(order));
+    }
+    if let Some(rest) = after_notice(line) {
+        let notice = LineReader {
+            rest,
+            place: 9,
+            over: 0,
+            falls: 0,
+        }.notice()?;
+        return Ok(Rule::Notice(notice));
+    }
+    Err(LineRefusal::Syntax(unnamed_rule(line)))
+}
+
 // What a line of the book says, or why and where it is refused.
 pub fn read_line(line: &[u8]) -> Result<Line, LineRefusal>
     ensures value { λ r. ⌜ r ≡ read (now (line .entry)) ⌝ }
@@ -507,4 +568,15 @@ pub fn read_line(line: &[u8]) -> Result<Line, LineRefusal>
     ensures alone { λ r. ⌜ ((x : Outcome) → Says (now (line .entry)) x → x ≡ r) ⌝ }
 {
     read_named(line)
+}
+
+// What a line says where there are orders and notices only, or why and where it is refused.
+pub fn read_rule(line: &[u8]) -> Result<Rule, LineRefusal>
+    ensures value { λ r. ⌜ r ≡ read-rule (now (line .entry)) ⌝ }
+    ensures same { λ r. ⌜ as-line r ≡ read-as rule-forms (now (line .entry)) ⌝ }
+    ensures says { λ r. ⌜ Says-as rule-forms (now (line .entry)) (as-line r) ⌝ }
+    ensures alone { λ r. ⌜ ((x : Outcome) → Says-as rule-forms (now (line .entry)) x → x ≡ as-line r) ⌝ }
+    ensures rises { λ r. ⌜ ((q : ℕ) → r ≡ Err (NotRising q) → ⊥) ⌝ }
+{
+    read_named_rule(line)
 }

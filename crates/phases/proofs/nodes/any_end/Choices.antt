@@ -1,7 +1,4 @@
-use mathlib.Core.Path.{_≡_}
-use mathlib.Core.Bool.{true, false}
 use Prim.Native.Nat.{ℕ, _<_}
-use lib.ListN.{getD}
 use Rattle.phases.specs.Nodes.{Marked}
 use Rattle.phases.proofs.nodes.any_end.Given as given
 

@@ -1,6 +1,5 @@
-use mathlib.Core.Path.{_≡_}
 use mathlib.Core.Logic.{_↔_}
-use lib.ListN.{length, drop}
+use lib.ListN.{drop}
 use Rattle.book.specs.Lines.{lines}
 use Rattle.phases.specs.Nodes.{Marked, LeadsFrom}
 use Rattle.phases.proofs.nodes.leads.Given as given

@@ -1,0 +1,4 @@
+pub mod Refusals
+pub mod Moving
+pub mod Meaning
+pub mod Answers
