@@ -4,10 +4,10 @@ use mathlib.Core.List.{List}
 use mathlib.Core.Logic.{_⊎_, inl, inr, ⊎-elim}
 use Prim.Native.Nat.{ℕ, _+_, _<_, _≤_, _-_, min}
 use native.Mathlib.Omega.{arith}
-use lib.ListN.{length, getD, set}
+use lib.ListN.{length, getD, set, take}
 use lib.Seq.{getD-set-same, getD-set-other}
 use native.Mathlib.Decide.{decLt, ℕ-discrete}
-use Rattle.std.proofs.shelf.Lists.{getD-default, getD-past}
+use Rattle.std.proofs.shelf.Lists.{getD-default, getD-past, getD-take, length-take}
 use Rattle.grade.specs.declared.grade.Grade.{Ghosts}
 use Rattle.grade.specs.declared.waiting.Waiting.{Waiting}
 use Rattle.grade.specs.Lawful.{Lawful}
@@ -128,3 +128,13 @@ clear-all m rows n le before k = from (decLt k n)
     from : Dec (k < n) → row-at m rows k ≡ blank-row (m .best)
     from (yes lt) = before k lt
     from (no late) = getD-past rows k (blank-row (m .best)) (omega arith)
+
+-- the opened phases as a slice of their table
+pub phases-listed : {ls : List Line} (table : List ℕ) (count : ℕ) → count ≤ length table → Filled (Opened ls) (λ k. getD table k 0) count → Filled (Opened ls) (λ k. getD (take count table) k 0) (length (take count table))
+phases-listed {ls} table count fits filled =
+    let long : length (take count table) ≡ count = length-take count table ∙ (let e : min count (length table) ≡ count = omega arith in e) in
+    let read : (k : ℕ) → k < count → getD (take count table) k 0 ≡ getD table k 0 = λ k lt. getD-take count table k 0 lt in
+    subst (Filled (Opened ls) (λ k. getD (take count table) k 0)) (sym long) (record {
+      different = record { apart = λ k l hk hl e. filled .different .apart k l hk hl (sym (read k hk) ∙ e ∙ read l hl); each = λ k h. subst (Opened ls) (sym (read k h)) (filled .different .each k h) };
+      all = λ F is-open. let (k, lt, is) = filled .all F is-open in (k, lt, read k lt ∙ is);
+    })

@@ -3,8 +3,11 @@
 mod bring;
 mod keys;
 mod offer;
+pub mod book_rows;
+pub mod refusal;
 mod rules;
 mod saturate;
+pub mod saturated;
 mod sets;
 mod start;
 mod turn;
