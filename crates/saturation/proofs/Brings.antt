@@ -116,7 +116,7 @@ module _ {G : Type 0} {m : Ghosts G} {Fs : List ℕ} where
       brings-notice c stands i a x ntc here =
           let F = getD Fs i 0 in
           let is-x : row-of Fs x ≡ noticed-row c F (wagon (x .wagon)) (state-of Fs (x .to)) =
-              ap (λ f. row (state-of Fs f) (wagon (x .wagon)) (state-of Fs (x .to))) (ntc .from) ∙ ap (λ F. row (head (c .to .value) F) (wagon (x .wagon)) (state-of Fs (x .to))) (ntc .then) in
+          ap (λ f. row (state-of Fs f) (wagon (x .wagon)) (state-of Fs (x .to))) (ntc .from) ∙ ap (λ F. row (head (c .to .value) F) (wagon (x .wagon)) (state-of Fs (x .to))) (ntc .then) in
           record {
             reasoned = record {
               rule = notice-rule c F (wagon (x .wagon)) (state-of Fs (x .to)) stands (t .phases .different .each i (ntc .within)) (ntc .allows);

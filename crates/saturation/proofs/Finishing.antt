@@ -103,14 +103,14 @@ module _ {G : Type 0} {m : Ghosts G} {Fs : List ℕ} {ls : List Line} {rows : Li
     reasons = λ k h. w .settled-reasons k (row-at m rows k) (settled k h);
     blank = t .blank;
     fits = λ out.
-      let filled : Filled (Derivation (row-rules ls)) (λ k. row-of Fs (row-at m rows k)) n = record {
-        different = record { apart = once; each = λ k h. w .invariant .settled-derived _ _ (k, row-at m rows k, settled k h, refl, refl) .0 };
-        all = derivable;
-      } in
-      let less = filled-outnumber (Derivation (row-rules ls)) (λ k. row-of Fs (row-at m rows k)) n filled (min (length rows) (length queue)) .0 out in
-      let a = t .room in
-      let b = t .entries in
-      omega arith;
+        let filled : Filled (Derivation (row-rules ls)) (λ k. row-of Fs (row-at m rows k)) n = record {
+          different = record { apart = once; each = λ k h. w .invariant .settled-derived _ _ (k, row-at m rows k, settled k h, refl, refl) .0 };
+          all = derivable;
+        } in
+        let less = filled-outnumber (Derivation (row-rules ls)) (λ k. row-of Fs (row-at m rows k)) n filled (min (length rows) (length queue)) .0 out in
+        let a = t .room in
+        let b = t .entries in
+        omega arith;
   }
 
 -- one place more is blank

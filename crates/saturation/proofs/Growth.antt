@@ -130,8 +130,8 @@ module _ {G : Type 0} {m : Ghosts G} {Fs : List ℕ} {ls : List Line} {rows : Li
         ranked = h .ranked;
       };
       back = λ p r h.
-        let ranked : row-at m rows p .rank < s = subst (λ x. x < s) (ranks-stay p) (subst (λ x. x .rank < s) (sym (h .here)) (h .ranked)) in
-        record { within = h .within; here = sym (at-other p (settled-other p ranked)) ∙ h .here; ranked = h .ranked };
+          let ranked : row-at m rows p .rank < s = subst (λ x. x < s) (ranks-stay p) (subst (λ x. x .rank < s) (sym (h .here)) (h .ranked)) in
+          record { within = h .within; here = sym (at-other p (settled-other p ranked)) ∙ h .here; ranked = h .ranked };
       keys = λ k h. keys-stay k;
       better = λ k h. better-at k;
       rightly = λ k h. only-new k h (ℕ-discrete k i);

@@ -79,20 +79,20 @@ module _ {G : Type 0} (m : Ghosts G) (Fs : List ℕ) (b : Book) where
     gives : GivesAxioms m (lines b) (Reached (row-system m (lines b)) (Has m Fs (WaitsAt m new l)))
     gives = record {
       links = λ v stands.
-        let (k, lt, is) = link-stands b v .0 stands in
-        let long = length-take (b .linking) (b .links) in
-        let low : k < b .linking = omega arith in
-        reached _ _ (subst (λ y. Covers m Fs new l (link-row y) (m .best)) (sym (getD-take (b .linking) (b .links) k blank-link low) ∙ is blank-link) (went .done .0 k low));
+          let (k, lt, is) = link-stands b v .0 stands in
+          let long = length-take (b .linking) (b .links) in
+          let low : k < b .linking = omega arith in
+          reached _ _ (subst (λ y. Covers m Fs new l (link-row y) (m .best)) (sym (getD-take (b .linking) (b .links) k blank-link low) ∙ is blank-link) (went .done .0 k low));
       watches = λ v F stands is-open.
-        let (k, lt, is) = watch-stands b v .0 stands in
-        let long = length-take (b .watching) (b .watches) in
-        let low : k < b .watching = omega arith in
-        let (i, within, phase) = t .phases .all F is-open in
-        reached _ _ (subst₂ (λ y F. Covers m Fs new l (watch-row y F) (m .best)) (sym (getD-take (b .watching) (b .watches) k blank-watch low) ∙ is blank-watch) phase (went .done .1 k low i within));
+          let (k, lt, is) = watch-stands b v .0 stands in
+          let long = length-take (b .watching) (b .watches) in
+          let low : k < b .watching = omega arith in
+          let (i, within, phase) = t .phases .all F is-open in
+          reached _ _ (subst₂ (λ y F. Covers m Fs new l (watch-row y F) (m .best)) (sym (getD-take (b .watching) (b .watches) k blank-watch low) ∙ is blank-watch) phase (went .done .1 k low i within));
       orders = λ o F stands is-open in-force lone.
-        let fits = o .number .fits in
-        let (i, within, phase) = t .phases .all F is-open in
-        reached _ _ (subst (λ F. Covers m Fs new l (order-row o F (head (o .to .value) F)) (m .priced (o .toll))) phase (went .done .2 (o .number .value) (omega arith) o (order-stands b o .0 stands) i within lone (subst (λ F. InForce F (o .number .value)) (sym phase) in-force)));
+          let fits = o .number .fits in
+          let (i, within, phase) = t .phases .all F is-open in
+          reached _ _ (subst (λ F. Covers m Fs new l (order-row o F (head (o .to .value) F)) (m .priced (o .toll))) phase (went .done .2 (o .number .value) (omega arith) o (order-stands b o .0 stands) i within lone (subst (λ F. InForce F (o .number .value)) (sym phase) in-force)));
     }
 
     axiom-of : (i : Row) (g : G) → Has m Fs (WaitsAt m new l) i g → (r : Rule (lines b)) × (premises r ≡ []) × (conclusion r ≡ i) × (rule-grade m r ≡ g)

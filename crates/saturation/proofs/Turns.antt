@@ -215,9 +215,9 @@ module _ {G : Type 0} {m : Ghosts G} {Fs : List ℕ} (b : Book) {old mid : List 
       waits = x-waited;
       least = λ i g h. subst₂ (λ y z. T (m .noworse y z)) x-grade (ap (λ r. r .grade) (h .2 .here) ∙ h .4) (st .least (h .0) (h .2 .within) (ap (λ r. r .rank) (h .2 .here) ∙ h .2 .waits));
       fresh = λ g h.
-        let settled = h .2 in
-        let here : h .0 ≡ a = w .table .apart (h .0) a (settled .within) (st .within) (key-once Fs (w .table .phases .different .apart) m (row-at m old (h .0)) (row-at m old a) (w .table .placed (h .0) (settled .within)) (w .table .placed a (st .within)) (ap (row-of Fs) (settled .here) ∙ h .3 ∙ sym x-row)) in
-        not-a (h .0) (subst (λ y. y .rank < s) (sym (settled .here)) (settled .ranked)) here;
+          let settled = h .2 in
+          let here : h .0 ≡ a = w .table .apart (h .0) a (settled .within) (st .within) (key-once Fs (w .table .phases .different .apart) m (row-at m old (h .0)) (row-at m old a) (w .table .placed (h .0) (settled .within)) (w .table .placed a (st .within)) (ap (row-of Fs) (settled .here) ∙ h .3 ∙ sym x-row)) in
+          not-a (h .0) (subst (λ y. y .rank < s) (sym (settled .here)) (settled .ranked)) here;
     }
 
     still-known : (i : Row) (g : G) → Has m Fs (WaitsAt m old n) i g → Known (row-system m (lines b)) (Has m Fs (SettledAt m new l (s + 1))) (Has m Fs (WaitsAt m new l)) i g
@@ -308,11 +308,11 @@ module _ {G : Type 0} {m : Ghosts G} {Fs : List ℕ} (b : Book) {old mid : List 
     gives : GivesWith m (lines b) HasNow (row-of Fs x) (Known (row-system m (lines b)) HasNow (Has m Fs (WaitsAt m new l)))
     gives = record {
       orders = λ o F u g stands is-open in-force chain.
-        let fits = o .number .fits in
-        known _ _ (by-order o (o .wagons) (went .done (o .number .value) (omega arith) .orders o (order-stands b o .0 stands)) F u g in-force chain);
+          let fits = o .number .fits in
+          known _ _ (by-order o (o .wagons) (went .done (o .number .value) (omega arith) .orders o (order-stands b o .0 stands)) F u g in-force chain);
       notices = λ c F d u g stands is-open allows is-j has.
-        let fits = c .number .fits in
-        known _ _ (by-notice c (went .done (c .number .value) (omega arith) .notices c (notice-stands b c .0 stands)) F d u g is-open allows is-j has);
+          let fits = c .number .fits in
+          known _ _ (by-notice c (went .done (c .number .value) (omega arith) .notices c (notice-stands b c .0 stands)) F d u g is-open allows is-j has);
     }
 
     settling : Settling (row-system m (lines b)) (Has m Fs (SettledAt m old n s)) (Has m Fs (WaitsAt m old n)) HasNow (Has m Fs (WaitsAt m new l)) (row-of Fs x) (x .grade)

@@ -10,14 +10,14 @@ ghost use Rattle.model.specs.Phases.{Stands};
 ghost use Rattle.model.specs.Moves.{laid-down};
 ghost use Rattle.book.specs.Lines.{lines};
 ghost use Rattle.saturation.specs.Work.{SettledAt, Table, Last, Ends, Brings, BringsBoth, TriedOne, TriedTwo, TriedPairAt, TriedOrder, TriedNotice, TriedRule};
-use book::rule::Rule;
-use book::tables::Book;
 use crate::offer::offer;
 use crate::rules::goes;
 use crate::rules::notice_row;
 use crate::rules::noticed;
 use crate::rules::order_row;
 use crate::rules::starts;
+use book::rule::Rule;
+use book::tables::Book;
 use grade::grade::Grade;
 use grade::waiting::Waiting;
 use rowtable::row::TableRow;
@@ -26,7 +26,18 @@ use text::line::OrderLine;
 use text::line::Wagons;
 
 // Tries the order, which lays this wagon down, on the row settled last.
-fn attempt_one<G: Grade>(book: &Book, phases: &[u64], rows: &mut [TableRow<G>], waiting: &mut [Waiting<G>], settled: usize, found: usize, order: &OrderLine, wagon: u16, a: usize, x: TableRow<G>) -> Option<usize>
+fn attempt_one<G: Grade>(
+    book: &Book,
+    phases: &[u64],
+    rows: &mut [TableRow<G>],
+    waiting: &mut [Waiting<G>],
+    settled: usize,
+    found: usize,
+    order: &OrderLine,
+    wagon: u16,
+    a: usize,
+    x: TableRow<G>,
+) -> Option<usize>
     requires table { ⌜ Table G·Grade (now phases) (lines (now book)) (now rows) settled found (now waiting) ⌝ }
     requires last { ⌜ Last G·Grade (now phases) (lines (now book)) (now rows) settled found a x ⌝ }
     requires stands { ⌜ Stands (lines (now book)) (line.Order (now order)) × (laid-down (now order) ≡ wagon ∷ []) ⌝ }
@@ -43,7 +54,21 @@ fn attempt_one<G: Grade>(book: &Book, phases: &[u64], rows: &mut [TableRow<G>], 
 }
 
 // Tries the order, which lays these wagons down, on two settled rows, one of which was settled last.
-fn attempt_two<G: Grade>(book: &Book, phases: &[u64], rows: &mut [TableRow<G>], waiting: &mut [Waiting<G>], settled: usize, found: usize, order: &OrderLine, first: u16, second: u16, a: usize, x: TableRow<G>, b: usize, y: TableRow<G>) -> Option<usize>
+fn attempt_two<G: Grade>(
+    book: &Book,
+    phases: &[u64],
+    rows: &mut [TableRow<G>],
+    waiting: &mut [Waiting<G>],
+    settled: usize,
+    found: usize,
+    order: &OrderLine,
+    first: u16,
+    second: u16,
+    a: usize,
+    x: TableRow<G>,
+    b: usize,
+    y: TableRow<G>,
+) -> Option<usize>
     requires table { ⌜ Table G·Grade (now phases) (lines (now book)) (now rows) settled found (now waiting) ⌝ }
     requires settled { ⌜ SettledAt G·Grade (now rows) found settled a x × SettledAt G·Grade (now rows) found settled b y ⌝ }
     requires last { ⌜ Last G·Grade (now phases) (lines (now book)) (now rows) settled found a x ⊎ Last G·Grade (now phases) (lines (now book)) (now rows) settled found b y ⌝ }
@@ -64,7 +89,20 @@ fn attempt_two<G: Grade>(book: &Book, phases: &[u64], rows: &mut [TableRow<G>], 
 }
 
 // Tries the order on the row settled last with the row at place `b`, if that is settled, behind and before it.
-fn bring_pair<G: Grade>(book: &Book, phases: &[u64], rows: &mut [TableRow<G>], waiting: &mut [Waiting<G>], settled: usize, found: usize, order: &OrderLine, first: u16, second: u16, a: usize, x: TableRow<G>, b: usize) -> Option<usize>
+fn bring_pair<G: Grade>(
+    book: &Book,
+    phases: &[u64],
+    rows: &mut [TableRow<G>],
+    waiting: &mut [Waiting<G>],
+    settled: usize,
+    found: usize,
+    order: &OrderLine,
+    first: u16,
+    second: u16,
+    a: usize,
+    x: TableRow<G>,
+    b: usize,
+) -> Option<usize>
     requires table { ⌜ Table G·Grade (now phases) (lines (now book)) (now rows) settled found (now waiting) ⌝ }
     requires last { ⌜ Last G·Grade (now phases) (lines (now book)) (now rows) settled found a x ⌝ }
     requires stands { ⌜ Stands (lines (now book)) (line.Order (now order)) × (laid-down (now order) ≡ first ∷ (second ∷ [])) ⌝ }
@@ -76,12 +114,52 @@ fn bring_pair<G: Grade>(book: &Book, phases: &[u64], rows: &mut [TableRow<G>], w
     if y.rank >= settled {
         return Some(found);
     }
-    let n = attempt_two(book, phases, rows, waiting, settled, found, order, first, second, a, x, b, y)?;
-    attempt_two(book, phases, rows, waiting, settled, n, order, first, second, b, y, a, x)
+    let n = attempt_two(
+        book,
+        phases,
+        rows,
+        waiting,
+        settled,
+        found,
+        order,
+        first,
+        second,
+        a,
+        x,
+        b,
+        y,
+    )?;
+    attempt_two(
+        book,
+        phases,
+        rows,
+        waiting,
+        settled,
+        n,
+        order,
+        first,
+        second,
+        b,
+        y,
+        a,
+        x,
+    )
 }
 
 // Tries the order on the row settled last with each settled row.
-fn bring_pairs<G: Grade>(book: &Book, phases: &[u64], rows: &mut [TableRow<G>], waiting: &mut [Waiting<G>], settled: usize, found: usize, order: &OrderLine, first: u16, second: u16, a: usize, x: TableRow<G>) -> Option<usize>
+fn bring_pairs<G: Grade>(
+    book: &Book,
+    phases: &[u64],
+    rows: &mut [TableRow<G>],
+    waiting: &mut [Waiting<G>],
+    settled: usize,
+    found: usize,
+    order: &OrderLine,
+    first: u16,
+    second: u16,
+    a: usize,
+    x: TableRow<G>,
+) -> Option<usize>
     requires table { ⌜ Table G·Grade (now phases) (lines (now book)) (now rows) settled found (now waiting) ⌝ }
     requires last { ⌜ Last G·Grade (now phases) (lines (now book)) (now rows) settled found a x ⌝ }
     requires stands { ⌜ Stands (lines (now book)) (line.Order (now order)) × (laid-down (now order) ≡ first ∷ (second ∷ [])) ⌝ }
@@ -90,13 +168,36 @@ fn bring_pairs<G: Grade>(book: &Book, phases: &[u64], rows: &mut [TableRow<G>], 
 {
     let mut n = found;
     for b in 0..found {
-        n = bring_pair(book, phases, rows, waiting, settled, n, order, first, second, a, x, b)?;
+        n = bring_pair(
+            book,
+            phases,
+            rows,
+            waiting,
+            settled,
+            n,
+            order,
+            first,
+            second,
+            a,
+            x,
+            b,
+        )?;
     }
     Some(n)
 }
 
 // Tries the order on the row settled last.
-fn bring_order<G: Grade>(book: &Book, phases: &[u64], rows: &mut [TableRow<G>], waiting: &mut [Waiting<G>], settled: usize, found: usize, order: &OrderLine, a: usize, x: TableRow<G>) -> Option<usize>
+fn bring_order<G: Grade>(
+    book: &Book,
+    phases: &[u64],
+    rows: &mut [TableRow<G>],
+    waiting: &mut [Waiting<G>],
+    settled: usize,
+    found: usize,
+    order: &OrderLine,
+    a: usize,
+    x: TableRow<G>,
+) -> Option<usize>
     requires table { ⌜ Table G·Grade (now phases) (lines (now book)) (now rows) settled found (now waiting) ⌝ }
     requires last { ⌜ Last G·Grade (now phases) (lines (now book)) (now rows) settled found a x ⌝ }
     requires stands { ⌜ Stands (lines (now book)) (line.Order (now order)) ⌝ }
@@ -105,13 +206,47 @@ fn bring_order<G: Grade>(book: &Book, phases: &[u64], rows: &mut [TableRow<G>], 
 {
     match order.wagons {
         Wagons::Zero => Some(found),
-        Wagons::One(wagon) => attempt_one(book, phases, rows, waiting, settled, found, order, wagon.get(), a, x),
-        Wagons::Two(first, second) => bring_pairs(book, phases, rows, waiting, settled, found, order, first.get(), second.get(), a, x),
+        Wagons::One(wagon) => attempt_one(
+            book,
+            phases,
+            rows,
+            waiting,
+            settled,
+            found,
+            order,
+            wagon.get(),
+            a,
+            x,
+        ),
+        Wagons::Two(first, second) => bring_pairs(
+            book,
+            phases,
+            rows,
+            waiting,
+            settled,
+            found,
+            order,
+            first.get(),
+            second.get(),
+            a,
+            x,
+        ),
     }
 }
 
 // Tries the notice on the row settled last, in the phase at this place.
-fn attempt_notice<G: Grade>(book: &Book, phases: &[u64], rows: &mut [TableRow<G>], waiting: &mut [Waiting<G>], settled: usize, found: usize, notice: &NoticeLine, place: usize, a: usize, x: TableRow<G>) -> Option<usize>
+fn attempt_notice<G: Grade>(
+    book: &Book,
+    phases: &[u64],
+    rows: &mut [TableRow<G>],
+    waiting: &mut [Waiting<G>],
+    settled: usize,
+    found: usize,
+    notice: &NoticeLine,
+    place: usize,
+    a: usize,
+    x: TableRow<G>,
+) -> Option<usize>
     requires table { ⌜ Table G·Grade (now phases) (lines (now book)) (now rows) settled found (now waiting) ⌝ }
     requires last { ⌜ Last G·Grade (now phases) (lines (now book)) (now rows) settled found a x ⌝ }
     requires stands { ⌜ Stands (lines (now book)) (line.Notice (now notice)) ⌝ }
@@ -127,7 +262,17 @@ fn attempt_notice<G: Grade>(book: &Book, phases: &[u64], rows: &mut [TableRow<G>
 }
 
 // Tries the notice on the row settled last, in every opened phase.
-fn bring_notice<G: Grade>(book: &Book, phases: &[u64], rows: &mut [TableRow<G>], waiting: &mut [Waiting<G>], settled: usize, found: usize, notice: &NoticeLine, a: usize, x: TableRow<G>) -> Option<usize>
+fn bring_notice<G: Grade>(
+    book: &Book,
+    phases: &[u64],
+    rows: &mut [TableRow<G>],
+    waiting: &mut [Waiting<G>],
+    settled: usize,
+    found: usize,
+    notice: &NoticeLine,
+    a: usize,
+    x: TableRow<G>,
+) -> Option<usize>
     requires table { ⌜ Table G·Grade (now phases) (lines (now book)) (now rows) settled found (now waiting) ⌝ }
     requires last { ⌜ Last G·Grade (now phases) (lines (now book)) (now rows) settled found a x ⌝ }
     requires stands { ⌜ Stands (lines (now book)) (line.Notice (now notice)) ⌝ }
@@ -143,7 +288,17 @@ fn bring_notice<G: Grade>(book: &Book, phases: &[u64], rows: &mut [TableRow<G>],
 }
 
 // Tries the rule with this number on the row settled last.
-fn bring_rule<G: Grade>(book: &Book, phases: &[u64], rows: &mut [TableRow<G>], waiting: &mut [Waiting<G>], settled: usize, found: usize, number: usize, a: usize, x: TableRow<G>) -> Option<usize>
+fn bring_rule<G: Grade>(
+    book: &Book,
+    phases: &[u64],
+    rows: &mut [TableRow<G>],
+    waiting: &mut [Waiting<G>],
+    settled: usize,
+    found: usize,
+    number: usize,
+    a: usize,
+    x: TableRow<G>,
+) -> Option<usize>
     requires table { ⌜ Table G·Grade (now phases) (lines (now book)) (now rows) settled found (now waiting) ⌝ }
     requires last { ⌜ Last G·Grade (now phases) (lines (now book)) (now rows) settled found a x ⌝ }
     requires number { ⌜ number < 64 ⌝ }
@@ -154,13 +309,42 @@ fn bring_rule<G: Grade>(book: &Book, phases: &[u64], rows: &mut [TableRow<G>], w
     let rule = book.rules[number];
     match rule {
         Rule::Free => Some(found),
-        Rule::Order(order) => bring_order(book, phases, rows, waiting, settled, found, &order, a, x),
-        Rule::Notice(notice) => bring_notice(book, phases, rows, waiting, settled, found, &notice, a, x),
+        Rule::Order(order) => bring_order(
+            book,
+            phases,
+            rows,
+            waiting,
+            settled,
+            found,
+            &order,
+            a,
+            x,
+        ),
+        Rule::Notice(notice) => bring_notice(
+            book,
+            phases,
+            rows,
+            waiting,
+            settled,
+            found,
+            &notice,
+            a,
+            x,
+        ),
     }
 }
 
 // Tries all rules on the row settled last.
-pub fn bring<G: Grade>(book: &Book, phases: &[u64], rows: &mut [TableRow<G>], waiting: &mut [Waiting<G>], settled: usize, found: usize, a: usize, x: TableRow<G>) -> Option<usize>
+pub fn bring<G: Grade>(
+    book: &Book,
+    phases: &[u64],
+    rows: &mut [TableRow<G>],
+    waiting: &mut [Waiting<G>],
+    settled: usize,
+    found: usize,
+    a: usize,
+    x: TableRow<G>,
+) -> Option<usize>
     requires table { ⌜ Table G·Grade (now phases) (lines (now book)) (now rows) settled found (now waiting) ⌝ }
     requires last { ⌜ Last G·Grade (now phases) (lines (now book)) (now rows) settled found a x ⌝ }
     requires few { ⌜ length (now phases) ≤ 256 ⌝ }

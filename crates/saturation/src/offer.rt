@@ -10,8 +10,8 @@ ghost use Rattle.queue.specs.Queues.{Holds, Replaced};
 ghost use Rattle.rowtable.specs.Tables.{row-of};
 ghost use Rattle.book.specs.Lines.{lines};
 ghost use Rattle.saturation.specs.Work.{key, row-at, unranked, Covers, Placed, Table, Later, Went, Ends};
-use book::tables::Book;
 use crate::keys::find;
+use book::tables::Book;
 use grade::grade::Grade;
 use grade::waiting::Waiting;
 use grade::waiting::WaitingOrder;
@@ -38,7 +38,16 @@ fn requeue<G: Grade>(waiting: &mut [Waiting<G>], count: usize, old: Waiting<G>, 
 }
 
 // Puts `row` for the one at place `i`, which has its key, if that one waits with a worse grade.
-fn improve<G: Grade>(book: &Book, phases: &[u64], rows: &mut [TableRow<G>], waiting: &mut [Waiting<G>], settled: usize, found: usize, i: usize, row: TableRow<G>)
+fn improve<G: Grade>(
+    book: &Book,
+    phases: &[u64],
+    rows: &mut [TableRow<G>],
+    waiting: &mut [Waiting<G>],
+    settled: usize,
+    found: usize,
+    i: usize,
+    row: TableRow<G>,
+)
     requires table { ⌜ Table G·Grade (now phases) (lines (now book)) (now rows) settled found (now waiting) ⌝ }
     requires row { ⌜ (row .rank ≡ unranked) × Placed G·Grade (now phases) row ⌝ }
     requires later { ⌜ Later G·Grade (now phases) (lines (now book)) (now rows) settled found (row .grade) ⌝ }
@@ -49,13 +58,32 @@ fn improve<G: Grade>(book: &Book, phases: &[u64], rows: &mut [TableRow<G>], wait
     G::agrees();
     let old = rows[i];
     if !keeps(&old, settled, &row.grade) {
-        requeue(waiting, found - settled, Waiting { grade: old.grade, row: i }, Waiting { grade: row.grade, row: i });
+        requeue(
+            waiting,
+            found - settled,
+            Waiting {
+                grade: old.grade,
+                row: i,
+            },
+            Waiting {
+                grade: row.grade,
+                row: i,
+            },
+        );
         rows[i] = row;
     }
 }
 
 // Puts `row`, whose key no row has, behind the others, if there is a place.
-fn append<G: Grade>(book: &Book, phases: &[u64], rows: &mut [TableRow<G>], waiting: &mut [Waiting<G>], settled: usize, found: usize, row: TableRow<G>) -> Option<usize>
+fn append<G: Grade>(
+    book: &Book,
+    phases: &[u64],
+    rows: &mut [TableRow<G>],
+    waiting: &mut [Waiting<G>],
+    settled: usize,
+    found: usize,
+    row: TableRow<G>,
+) -> Option<usize>
     requires table { ⌜ Table G·Grade (now phases) (lines (now book)) (now rows) settled found (now waiting) ⌝ }
     requires row { ⌜ (row .rank ≡ unranked) × Placed G·Grade (now phases) row ⌝ }
     requires nowhere { ⌜ ((k : ℕ) → k < found → key (row-at G·Grade (now rows) k) ≡ key row → ⊥) ⌝ }
@@ -66,14 +94,29 @@ fn append<G: Grade>(book: &Book, phases: &[u64], rows: &mut [TableRow<G>], waiti
     if found >= rows.len() || found >= waiting.len() {
         return None;
     }
-    queue::put(waiting, found - settled, Waiting { grade: row.grade, row: found })?;
+    queue::put(
+        waiting,
+        found - settled,
+        Waiting {
+            grade: row.grade,
+            row: found,
+        },
+    )?;
     rows[found] = row;
     Some(found + 1)
 }
 
 // Lets `row` wait, unless a row with its key is settled, or waits with a grade no worse. Answers how many rows there are then; None
 // where there is no place for it.
-pub fn offer<G: Grade>(book: &Book, phases: &[u64], rows: &mut [TableRow<G>], waiting: &mut [Waiting<G>], settled: usize, found: usize, row: TableRow<G>) -> Option<usize>
+pub fn offer<G: Grade>(
+    book: &Book,
+    phases: &[u64],
+    rows: &mut [TableRow<G>],
+    waiting: &mut [Waiting<G>],
+    settled: usize,
+    found: usize,
+    row: TableRow<G>,
+) -> Option<usize>
     requires table { ⌜ Table G·Grade (now phases) (lines (now book)) (now rows) settled found (now waiting) ⌝ }
     requires row { ⌜ (row .rank ≡ unranked) × Placed G·Grade (now phases) row ⌝ }
     requires later { ⌜ Later G·Grade (now phases) (lines (now book)) (now rows) settled found (row .grade) ⌝ }

@@ -19,7 +19,14 @@ use text::line::NoticeLine;
 use text::line::OrderLine;
 use text::line::WatchLine;
 
-pub fn order_row<G: Grade>(order: &OrderLine, place: u8, to: TableState, parts: G, a: usize, b: usize) -> TableRow<G>
+pub fn order_row<G: Grade>(
+    order: &OrderLine,
+    place: u8,
+    to: TableState,
+    parts: G,
+    a: usize,
+    b: usize,
+) -> TableRow<G>
     ensures { λ r. ⌜ r ≡ row-by-order G·Grade (now (order .entry)) place to parts a b ⌝ }
 {
     TableRow {
@@ -32,7 +39,12 @@ pub fn order_row<G: Grade>(order: &OrderLine, place: u8, to: TableState, parts: 
     }
 }
 
-pub fn notice_row<G: Grade>(notice: &NoticeLine, place: usize, after: &TableRow<G>, a: usize) -> TableRow<G>
+pub fn notice_row<G: Grade>(
+    notice: &NoticeLine,
+    place: usize,
+    after: &TableRow<G>,
+    a: usize,
+) -> TableRow<G>
     requires { ⌜ place < 256 ⌝ }
     ensures { λ r. ⌜ r ≡ row-by-notice G·Grade (now (notice .entry)) place (now (after .entry)) a ⌝ }
 {
@@ -49,13 +61,24 @@ pub fn notice_row<G: Grade>(notice: &NoticeLine, place: usize, after: &TableRow<
 fn line_row<G: Grade>(from: TableState, wagon: u8, to: TableState) -> TableRow<G>
     ensures { λ r. ⌜ r ≡ row-by-line G·Grade from wagon to ⌝ }
 {
-    TableRow { from, wagon, to, grade: G::best_grade(), rank: usize::MAX, reason: Reason::Line }
+    TableRow {
+        from,
+        wagon,
+        to,
+        grade: G::best_grade(),
+        rank: usize::MAX,
+        reason: Reason::Line,
+    }
 }
 
 pub fn link_row<G: Grade>(link: &LinkLine) -> TableRow<G>
     ensures { λ r. ⌜ r ≡ row-by-line G·Grade (Node (now (link .entry) .node .value)) (now (link .entry) .wagon .value) (Node (now (link .entry) .to .value)) ⌝ }
 {
-    line_row(TableState::Node(link.node.get() as u8), link.wagon.get() as u8, TableState::Node(link.to.get() as u8))
+    line_row(
+        TableState::Node(link.node.get() as u8),
+        link.wagon.get() as u8,
+        TableState::Node(link.to.get() as u8),
+    )
 }
 
 pub fn watch_row<G: Grade>(watch: &WatchLine, place: usize) -> TableRow<G>
@@ -63,7 +86,11 @@ pub fn watch_row<G: Grade>(watch: &WatchLine, place: usize) -> TableRow<G>
     ensures { λ r. ⌜ r ≡ row-by-line G·Grade (Head (now (watch .entry) .mode .value) place) (now (watch .entry) .wagon .value) (Node (now (watch .entry) .node .value)) ⌝ }
 {
     let from = TableState::Head(watch.mode.get() as u8, place as u8);
-    line_row(from, watch.wagon.get() as u8, TableState::Node(watch.node.get() as u8))
+    line_row(
+        from,
+        watch.wagon.get() as u8,
+        TableState::Node(watch.node.get() as u8),
+    )
 }
 
 // The row of an order that lays nothing down.
@@ -76,7 +103,12 @@ pub fn lone_row<G: Grade>(order: &OrderLine, place: usize) -> TableRow<G>
 }
 
 // The place of the phase in which the row starts at the head after the order, by the wagon, if the order is in force in it.
-pub fn starts<G: Grade>(phases: &[u64], order: &OrderLine, wagon: u16, row: &TableRow<G>) -> Option<u8>
+pub fn starts<G: Grade>(
+    phases: &[u64],
+    order: &OrderLine,
+    wagon: u16,
+    row: &TableRow<G>,
+) -> Option<u8>
     ensures { λ r. ⌜ BySome r
         ((i : ℕ) → Starts G·Grade (now (phases .entry)) (now (order .entry)) wagon (now (row .entry)) i → ⊥)
         (λ i. Starts G·Grade (now (phases .entry)) (now (order .entry)) wagon (now (row .entry)) i) ⌝ }
@@ -103,7 +135,12 @@ pub fn goes<G: Grade>(wagon: u16, row: &TableRow<G>, next: &TableRow<G>) -> bool
 }
 
 // Whether the row starts at the head after the notice, where it is carried out in the phase at this place.
-pub fn noticed<G: Grade>(phases: &[u64], notice: &NoticeLine, place: usize, row: &TableRow<G>) -> bool
+pub fn noticed<G: Grade>(
+    phases: &[u64],
+    notice: &NoticeLine,
+    place: usize,
+    row: &TableRow<G>,
+) -> bool
     requires { ⌜ place < length (now phases) ⌝ }
     ensures { λ r. ⌜ Decides r (Noticed G·Grade (now (phases .entry)) (now (notice .entry)) (now (row .entry)) place) ⌝ }
 {
@@ -112,7 +149,9 @@ pub fn noticed<G: Grade>(phases: &[u64], notice: &NoticeLine, place: usize, row:
         TableState::Head(mode, then) => {
             let j = then as usize;
             let phase = phases[place];
-            let after = mode as u16 == notice.to.get() && j < phases.len() && allowed(notice, phase);
+            let after = mode as u16 == notice.to.get()
+                && j < phases.len()
+                && allowed(notice, phase);
             after && phases[j] == phase_after(notice, phase)
         }
     }

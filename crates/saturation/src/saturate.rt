@@ -12,9 +12,9 @@ ghost use Rattle.grade.specs.Lawful.{Lawful};
 ghost use Rattle.rowtable.specs.Tables.{blank-row};
 ghost use Rattle.saturation.specs.Work.{row-at};
 ghost use Rattle.saturation.specs.Finished.{Finished};
-use book::tables::Book;
 use crate::start::begin;
 use crate::turn::proceed;
+use book::tables::Book;
 use grade::grade::Grade;
 use grade::waiting::Waiting;
 use rowtable::row::Reason;
@@ -24,7 +24,14 @@ use rowtable::row::TableState;
 fn blank_row<G: Grade>() -> TableRow<G>
     ensures { λ r. ⌜ r ≡ blank-row (G·Grade .best) ⌝ }
 {
-    TableRow { from: TableState::Node(0), wagon: 0, to: TableState::Node(0), grade: G::best_grade(), rank: 0, reason: Reason::Line }
+    TableRow {
+        from: TableState::Node(0),
+        wagon: 0,
+        to: TableState::Node(0),
+        grade: G::best_grade(),
+        rank: 0,
+        reason: Reason::Line,
+    }
 }
 
 // Makes every place of the row table blank.
@@ -37,7 +44,12 @@ pub fn clear<G: Grade>(rows: &mut [TableRow<G>])
 }
 
 // Fills the blank row table, and answers how many rows there are; None where they outnumber the places.
-fn fill<G: Grade>(book: &Book, phases: &[u64], rows: &mut [TableRow<G>], waiting: &mut [Waiting<G>]) -> Option<usize>
+fn fill<G: Grade>(
+    book: &Book,
+    phases: &[u64],
+    rows: &mut [TableRow<G>],
+    waiting: &mut [Waiting<G>],
+) -> Option<usize>
     requires lawful { ⌜ Lawful G·Grade ⌝ }
     requires opened { ⌜ Filled (Opened (lines (now book))) (λ k. getD (now phases) k 0) (length (now phases)) ⌝ }
     requires few { ⌜ length (now phases) ≤ 256 ⌝ }
@@ -54,7 +66,12 @@ fn fill<G: Grade>(book: &Book, phases: &[u64], rows: &mut [TableRow<G>], waiting
 
 // Fills the row table with the saturated rows of the book, whose opened phases are these, and answers how many they are; None where
 // they outnumber the places, and then the row table is blank.
-pub fn saturate<G: Grade>(book: &Book, phases: &[u64], rows: &mut [TableRow<G>], waiting: &mut [Waiting<G>]) -> Option<usize>
+pub fn saturate<G: Grade>(
+    book: &Book,
+    phases: &[u64],
+    rows: &mut [TableRow<G>],
+    waiting: &mut [Waiting<G>],
+) -> Option<usize>
     requires opened { ⌜ Filled (Opened (lines (now book))) (λ k. getD (now phases) k 0) (length (now phases)) ⌝ }
     requires few { ⌜ length (now phases) ≤ 256 ⌝ }
     ensures { λ r. ⌜ BySome r

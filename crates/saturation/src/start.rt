@@ -9,13 +9,13 @@ ghost use Rattle.model.specs.Moves.{laid-down};
 ghost use Rattle.book.specs.Lines.{lines};
 ghost use Rattle.saturation.specs.Work.{Table, Ends, Begins, Turned};
 ghost use Rattle.saturation.specs.Start.{LinkBegun, WatchBegun, OrderBegun, RuleBegun};
-use book::rule::Rule;
-use book::tables::Book;
 use crate::offer::offer;
 use crate::rules::link_row;
 use crate::rules::lone_row;
 use crate::rules::watch_row;
 use crate::sets::contains;
+use book::rule::Rule;
+use book::tables::Book;
 use grade::grade::Grade;
 use grade::waiting::Waiting;
 use rowtable::row::TableRow;
@@ -23,7 +23,14 @@ use text::line::OrderLine;
 use text::line::Wagons;
 
 // Lets the row of a link line wait.
-fn begin_link<G: Grade>(book: &Book, phases: &[u64], rows: &mut [TableRow<G>], waiting: &mut [Waiting<G>], found: usize, k: usize) -> Option<usize>
+fn begin_link<G: Grade>(
+    book: &Book,
+    phases: &[u64],
+    rows: &mut [TableRow<G>],
+    waiting: &mut [Waiting<G>],
+    found: usize,
+    k: usize,
+) -> Option<usize>
     requires table { ⌜ Table G·Grade (now phases) (lines (now book)) (now rows) 0 found (now waiting) ⌝ }
     requires few { ⌜ length (now phases) ≤ 256 ⌝ }
     requires k { ⌜ k < now book .linking ⌝ }
@@ -36,7 +43,15 @@ fn begin_link<G: Grade>(book: &Book, phases: &[u64], rows: &mut [TableRow<G>], w
 }
 
 // Lets the row of a watch line wait, in the phase at this place.
-fn begin_watch<G: Grade>(book: &Book, phases: &[u64], rows: &mut [TableRow<G>], waiting: &mut [Waiting<G>], found: usize, k: usize, place: usize) -> Option<usize>
+fn begin_watch<G: Grade>(
+    book: &Book,
+    phases: &[u64],
+    rows: &mut [TableRow<G>],
+    waiting: &mut [Waiting<G>],
+    found: usize,
+    k: usize,
+    place: usize,
+) -> Option<usize>
     requires table { ⌜ Table G·Grade (now phases) (lines (now book)) (now rows) 0 found (now waiting) ⌝ }
     requires few { ⌜ length (now phases) ≤ 256 ⌝ }
     requires k { ⌜ (k < now book .watching) × (place < length (now phases)) ⌝ }
@@ -49,7 +64,15 @@ fn begin_watch<G: Grade>(book: &Book, phases: &[u64], rows: &mut [TableRow<G>], 
 }
 
 // Lets the row of an order that lays nothing down wait, if the order is in force in the phase at this place.
-fn begin_order<G: Grade>(book: &Book, phases: &[u64], rows: &mut [TableRow<G>], waiting: &mut [Waiting<G>], found: usize, order: &OrderLine, place: usize) -> Option<usize>
+fn begin_order<G: Grade>(
+    book: &Book,
+    phases: &[u64],
+    rows: &mut [TableRow<G>],
+    waiting: &mut [Waiting<G>],
+    found: usize,
+    order: &OrderLine,
+    place: usize,
+) -> Option<usize>
     requires table { ⌜ Table G·Grade (now phases) (lines (now book)) (now rows) 0 found (now waiting) ⌝ }
     requires few { ⌜ length (now phases) ≤ 256 ⌝ }
     requires order { ⌜ Stands (lines (now book)) (line.Order (now order)) × (laid-down (now order) ≡ []) ⌝ }
@@ -65,7 +88,13 @@ fn begin_order<G: Grade>(book: &Book, phases: &[u64], rows: &mut [TableRow<G>], 
 }
 
 // Lets the rows of all link lines wait.
-fn begin_links<G: Grade>(book: &Book, phases: &[u64], rows: &mut [TableRow<G>], waiting: &mut [Waiting<G>], found: usize) -> Option<usize>
+fn begin_links<G: Grade>(
+    book: &Book,
+    phases: &[u64],
+    rows: &mut [TableRow<G>],
+    waiting: &mut [Waiting<G>],
+    found: usize,
+) -> Option<usize>
     requires table { ⌜ Table G·Grade (now phases) (lines (now book)) (now rows) 0 found (now waiting) ⌝ }
     requires few { ⌜ length (now phases) ≤ 256 ⌝ }
     ensures { λ r. ⌜ Ends G·Grade (now (phases .entry)) (lines (now (book .entry))) 0 (Begins G·Grade (now (phases .entry)) (lines (now (book .entry)))) (now (rows .entry)) found (now (waiting .entry)) (now (rows .exit)) (now (waiting .exit))
@@ -79,7 +108,14 @@ fn begin_links<G: Grade>(book: &Book, phases: &[u64], rows: &mut [TableRow<G>], 
 }
 
 // Lets the rows of a watch line wait.
-fn begin_watch_line<G: Grade>(book: &Book, phases: &[u64], rows: &mut [TableRow<G>], waiting: &mut [Waiting<G>], found: usize, k: usize) -> Option<usize>
+fn begin_watch_line<G: Grade>(
+    book: &Book,
+    phases: &[u64],
+    rows: &mut [TableRow<G>],
+    waiting: &mut [Waiting<G>],
+    found: usize,
+    k: usize,
+) -> Option<usize>
     requires table { ⌜ Table G·Grade (now phases) (lines (now book)) (now rows) 0 found (now waiting) ⌝ }
     requires few { ⌜ length (now phases) ≤ 256 ⌝ }
     requires k { ⌜ k < now book .watching ⌝ }
@@ -94,7 +130,13 @@ fn begin_watch_line<G: Grade>(book: &Book, phases: &[u64], rows: &mut [TableRow<
 }
 
 // Lets the rows of all watch lines wait.
-fn begin_watches<G: Grade>(book: &Book, phases: &[u64], rows: &mut [TableRow<G>], waiting: &mut [Waiting<G>], found: usize) -> Option<usize>
+fn begin_watches<G: Grade>(
+    book: &Book,
+    phases: &[u64],
+    rows: &mut [TableRow<G>],
+    waiting: &mut [Waiting<G>],
+    found: usize,
+) -> Option<usize>
     requires table { ⌜ Table G·Grade (now phases) (lines (now book)) (now rows) 0 found (now waiting) ⌝ }
     requires few { ⌜ length (now phases) ≤ 256 ⌝ }
     ensures { λ r. ⌜ Ends G·Grade (now (phases .entry)) (lines (now (book .entry))) 0 (Begins G·Grade (now (phases .entry)) (lines (now (book .entry)))) (now (rows .entry)) found (now (waiting .entry)) (now (rows .exit)) (now (waiting .exit))
@@ -108,7 +150,14 @@ fn begin_watches<G: Grade>(book: &Book, phases: &[u64], rows: &mut [TableRow<G>]
 }
 
 // Lets the rows of an order that lays nothing down wait.
-fn begin_order_line<G: Grade>(book: &Book, phases: &[u64], rows: &mut [TableRow<G>], waiting: &mut [Waiting<G>], found: usize, order: &OrderLine) -> Option<usize>
+fn begin_order_line<G: Grade>(
+    book: &Book,
+    phases: &[u64],
+    rows: &mut [TableRow<G>],
+    waiting: &mut [Waiting<G>],
+    found: usize,
+    order: &OrderLine,
+) -> Option<usize>
     requires table { ⌜ Table G·Grade (now phases) (lines (now book)) (now rows) 0 found (now waiting) ⌝ }
     requires few { ⌜ length (now phases) ≤ 256 ⌝ }
     requires order { ⌜ Stands (lines (now book)) (line.Order (now order)) × (laid-down (now order) ≡ []) ⌝ }
@@ -123,7 +172,14 @@ fn begin_order_line<G: Grade>(book: &Book, phases: &[u64], rows: &mut [TableRow<
 }
 
 // Lets the rows of the rule with this number wait, if it is an order that lays nothing down.
-fn begin_rule<G: Grade>(book: &Book, phases: &[u64], rows: &mut [TableRow<G>], waiting: &mut [Waiting<G>], found: usize, number: usize) -> Option<usize>
+fn begin_rule<G: Grade>(
+    book: &Book,
+    phases: &[u64],
+    rows: &mut [TableRow<G>],
+    waiting: &mut [Waiting<G>],
+    found: usize,
+    number: usize,
+) -> Option<usize>
     requires table { ⌜ Table G·Grade (now phases) (lines (now book)) (now rows) 0 found (now waiting) ⌝ }
     requires few { ⌜ length (now phases) ≤ 256 ⌝ }
     requires number { ⌜ number < 64 ⌝ }
@@ -141,7 +197,13 @@ fn begin_rule<G: Grade>(book: &Book, phases: &[u64], rows: &mut [TableRow<G>], w
 }
 
 // Lets the rows of all orders that lay nothing down wait.
-fn begin_rules<G: Grade>(book: &Book, phases: &[u64], rows: &mut [TableRow<G>], waiting: &mut [Waiting<G>], found: usize) -> Option<usize>
+fn begin_rules<G: Grade>(
+    book: &Book,
+    phases: &[u64],
+    rows: &mut [TableRow<G>],
+    waiting: &mut [Waiting<G>],
+    found: usize,
+) -> Option<usize>
     requires table { ⌜ Table G·Grade (now phases) (lines (now book)) (now rows) 0 found (now waiting) ⌝ }
     requires few { ⌜ length (now phases) ≤ 256 ⌝ }
     ensures { λ r. ⌜ Ends G·Grade (now (phases .entry)) (lines (now (book .entry))) 0 (Begins G·Grade (now (phases .entry)) (lines (now (book .entry)))) (now (rows .entry)) found (now (waiting .entry)) (now (rows .exit)) (now (waiting .exit))
@@ -155,7 +217,12 @@ fn begin_rules<G: Grade>(book: &Book, phases: &[u64], rows: &mut [TableRow<G>], 
 }
 
 // Lets all wait that rests on no other row. Answers how many rows there are; None where not all of them have a place.
-pub fn begin<G: Grade>(book: &Book, phases: &[u64], rows: &mut [TableRow<G>], waiting: &mut [Waiting<G>]) -> Option<usize>
+pub fn begin<G: Grade>(
+    book: &Book,
+    phases: &[u64],
+    rows: &mut [TableRow<G>],
+    waiting: &mut [Waiting<G>],
+) -> Option<usize>
     requires table { ⌜ Table G·Grade (now phases) (lines (now book)) (now rows) 0 0 (now waiting) ⌝ }
     requires few { ⌜ length (now phases) ≤ 256 ⌝ }
     ensures { λ r. ⌜ Turned G·Grade (now (phases .entry)) (lines (now (book .entry))) (now (rows .entry)) (now (waiting .entry)) 0 (now (rows .exit)) (now (waiting .exit)) r ⌝ }

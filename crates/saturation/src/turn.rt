@@ -5,15 +5,22 @@ ghost use lib.ListN.{length};
 ghost use Rattle.std.specs.Options.{Cases as BySome};
 ghost use Rattle.book.specs.Lines.{lines};
 ghost use Rattle.saturation.specs.Work.{Table, Settles, Worked, Turned, Proceeded};
-use book::tables::Book;
 use crate::bring::bring;
+use book::tables::Book;
 use grade::grade::Grade;
 use grade::waiting::Waiting;
 use grade::waiting::WaitingOrder;
 use rowtable::row::TableRow;
 
 // Takes the best entry out of the queue and gives its row the next rank. Answers its place.
-fn settle<G: Grade>(book: &Book, phases: &[u64], rows: &mut [TableRow<G>], waiting: &mut [Waiting<G>], settled: usize, found: usize) -> Option<usize>
+fn settle<G: Grade>(
+    book: &Book,
+    phases: &[u64],
+    rows: &mut [TableRow<G>],
+    waiting: &mut [Waiting<G>],
+    settled: usize,
+    found: usize,
+) -> Option<usize>
     requires waits { ⌜ settled < found ⌝ }
     requires table { ⌜ Table G·Grade (now phases) (lines (now book)) (now rows) settled found (now waiting) ⌝ }
     ensures { λ r. ⌜ BySome r ⊥ (λ a. Settles G·Grade (now (phases .entry)) (lines (now (book .entry))) (now (rows .entry)) settled found (now (waiting .entry)) a (now (rows .exit)) (now (waiting .exit))) ⌝ }
@@ -29,7 +36,14 @@ fn settle<G: Grade>(book: &Book, phases: &[u64], rows: &mut [TableRow<G>], waiti
 
 // Settles the best row that waits, and lets wait what it brings. Answers how many rows there are then; None where not all of them
 // have a place.
-pub fn turn<G: Grade>(book: &Book, phases: &[u64], rows: &mut [TableRow<G>], waiting: &mut [Waiting<G>], settled: usize, found: usize) -> Option<usize>
+pub fn turn<G: Grade>(
+    book: &Book,
+    phases: &[u64],
+    rows: &mut [TableRow<G>],
+    waiting: &mut [Waiting<G>],
+    settled: usize,
+    found: usize,
+) -> Option<usize>
     requires waits { ⌜ settled < found ⌝ }
     requires worked { ⌜ Worked G·Grade (now phases) (lines (now book)) (now rows) settled found (now waiting) ⌝ }
     requires few { ⌜ length (now phases) ≤ 256 ⌝ }
@@ -41,7 +55,15 @@ pub fn turn<G: Grade>(book: &Book, phases: &[u64], rows: &mut [TableRow<G>], wai
 }
 
 // Settles `count` more rows, best grade first, or all where there are fewer. Answers how many are settled and how many there are.
-pub fn proceed<G: Grade>(book: &Book, phases: &[u64], rows: &mut [TableRow<G>], waiting: &mut [Waiting<G>], settled: usize, found: usize, count: usize) -> Option<(usize, usize)>
+pub fn proceed<G: Grade>(
+    book: &Book,
+    phases: &[u64],
+    rows: &mut [TableRow<G>],
+    waiting: &mut [Waiting<G>],
+    settled: usize,
+    found: usize,
+    count: usize,
+) -> Option<(usize, usize)>
     requires worked { ⌜ Worked G·Grade (now phases) (lines (now book)) (now rows) settled found (now waiting) ⌝ }
     requires few { ⌜ length (now phases) ≤ 256 ⌝ }
     ensures { λ r. ⌜ Proceeded G·Grade (now (phases .entry)) (lines (now (book .entry))) (now (rows .entry)) (now (waiting .entry)) settled count (now (rows .exit)) (now (waiting .exit)) r ⌝ }

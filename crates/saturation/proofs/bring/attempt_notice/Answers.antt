@@ -51,4 +51,4 @@ returns g c =
     let ntc = c .noticed .ensures .0 (c .if-not-noticed .left) in
     let new = brings-notice t d (c .pre .stands) i (c .args .a) x ntc (c .pre .last .here) in
     offered (Brings m Fs (lines (c .args .book .now)) (c .args .rows .now) (c .args .settled) (c .args .found) x) t (c .offer .last .rows) (c .offer .last .waiting) (c .notice-row-row .result) (row-by-notice m d i x (c .args .a)) (c .notice-row-row .ensures) new
-      (TriedNotice m Fs d x i) (c .offer .result) (λ l covers h. covers) (c .offer .ensures)
+    (TriedNotice m Fs d x i) (c .offer .result) (λ l covers h. covers) (c .offer .ensures)

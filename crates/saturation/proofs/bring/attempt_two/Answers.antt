@@ -58,6 +58,6 @@ returns-in-Some g c =
     let is = c .order-row-row .ensures ∙ ap (λ h. row-by-order m o i (y .to) h (c .args .a) (c .args .b)) (c .joined .ensures) in
     let new = brings-two t o (c .pre .stands .0) (c .args .first) (c .args .second) i (c .args .a) (c .args .b) x y (c .pre .stands .1) (c .in-Some .ensures tt) (c .goes .ensures .0 (c .if-not-goes .left)) (c .pre .settled .0) (c .pre .settled .1) in
     offered (BringsBoth m Fs (lines (c .args .book .now)) rows s n x y) t (c .offer .last .rows) (c .offer .last .waiting) (c .order-row-row .result) (row-by-order m o i (y .to) (m .join (x .grade) (y .grade)) (c .args .a) (c .args .b)) is new
-      (TriedTwo m Fs o (c .args .first) (c .args .second) x y) (c .offer .result)
-      (λ l covers j st go. subst (λ k. Covers m Fs (c .offer .last .rows) l (order-row o (getD Fs k 0) (state-of Fs (y .to))) (m .join (m .priced (o .toll)) (m .join (x .grade) (y .grade)))) (starts-once (c .in-Some .ensures tt) st) covers)
-      (c .offer .ensures)
+    (TriedTwo m Fs o (c .args .first) (c .args .second) x y) (c .offer .result)
+    (λ l covers j st go. subst (λ k. Covers m Fs (c .offer .last .rows) l (order-row o (getD Fs k 0) (state-of Fs (y .to))) (m .join (m .priced (o .toll)) (m .join (x .grade) (y .grade)))) (starts-once (c .in-Some .ensures tt) st) covers)
+    (c .offer .ensures)

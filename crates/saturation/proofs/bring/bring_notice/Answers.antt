@@ -37,8 +37,8 @@ loop-place-again g c =
     let new = c .attempt-notice .last .rows in
     let n = c .in-Continue-n .n in
     went-on w (brings-back (c .args .x) (w .grown))
-      (λ grown a b. below-next (λ i. TriedNotice m Fs (c .args .notice .now) (c .args .x) i new n) (c .loop-place .place) (λ i lt h. covers-later _ _ (w .table .lawful) grown (a i lt h)) b)
-      (c .in-Continue-n .ensures tt)
+    (λ grown a b. below-next (λ i. TriedNotice m Fs (c .args .notice .now) (c .args .x) i new n) (c .loop-place .place) (λ i lt h. covers-later _ _ (w .table .lawful) grown (a i lt h)) b)
+    (c .in-Continue-n .ensures tt)
 
 pub loop-place-holds : need.loop-place-holds
 loop-place-holds g c = went-none (c .pre .table) (λ b h. absurd (omega arith))

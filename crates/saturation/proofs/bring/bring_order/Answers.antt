@@ -44,8 +44,8 @@ returns-in-One g c =
     let At = SettledAt m rows n s in
     let new = c .attempt-one .last .rows in
     ends-so m Fs ls s (Brings m Fs ls rows s n x) rows n (c .args .waiting .now) new (c .attempt-one .last .waiting) (TriedOne m Fs o (c .get .result) x) (TriedOrder m Fs o (o .wagons) At x) (c .attempt-one .result)
-      (λ l tried. subst (λ w. TriedOrder m Fs o w At x new l) (sym (c .in-One .is)) (subst (λ k. TriedOne m Fs o k x new l) (c .get .ensures) tried))
-      (c .attempt-one .ensures)
+    (λ l tried. subst (λ w. TriedOrder m Fs o w At x new l) (sym (c .in-One .is)) (subst (λ k. TriedOne m Fs o k x new l) (c .get .ensures) tried))
+    (c .attempt-one .ensures)
 
 pub bring-pairs-requires : need.bring-pairs-requires
 bring-pairs-requires g c κs =
@@ -66,5 +66,5 @@ returns-in-Two g c =
     let k = c .get-in-Two .result in
     let j = c .get-in-Two-2 .result in
     ends-so m Fs ls s (Brings m Fs ls rows s n x) rows n (c .args .waiting .now) new (c .bring-pairs .last .waiting) (λ later l. (b : ℕ) → b < n → TriedPairAt m Fs o k j x rows n s b later l) (TriedOrder m Fs o (o .wagons) At x) (c .bring-pairs .result)
-      (λ l tried. subst (λ w. TriedOrder m Fs o w At x new l) (sym (c .in-Two .is)) (λ p y at. subst₂ (λ a b. TriedPair m Fs o a b x y new l) (c .get-in-Two .ensures) (c .get-in-Two-2 .ensures) (tried p (at .within) y at)))
-      (c .bring-pairs .ensures)
+    (λ l tried. subst (λ w. TriedOrder m Fs o w At x new l) (sym (c .in-Two .is)) (λ p y at. subst₂ (λ a b. TriedPair m Fs o a b x y new l) (c .get-in-Two .ensures) (c .get-in-Two-2 .ensures) (tried p (at .within) y at)))
+    (c .bring-pairs .ensures)

@@ -82,5 +82,5 @@ returns g c =
     let went = c .in-Continue-n .ensures tt in
     let went-x = went-on (went-none t {C = Unit {0}} tt) (given-on (λ p r h. h) (λ r f. f .0)) (λ grown a b. b) went in
     ends-on went-x (given-on (went .grown .back) (λ r f. f .1)) new (c .attempt-two-2 .last .waiting) (TriedTwo m Fs o k l y x) (TriedPairAt m Fs o k l x rows (c .args .found) s (c .args .b)) (c .attempt-two-2 .result)
-      (λ n grown a b z h. subst (λ z. TriedPair m Fs o k l x z new n) (e ∙ h .here) ((λ i st go. covers-later _ _ (t .lawful) grown (a i st go)), b))
-      (c .attempt-two-2 .ensures)
+    (λ n grown a b z h. subst (λ z. TriedPair m Fs o k l x z new n) (e ∙ h .here) ((λ i st go. covers-later _ _ (t .lawful) grown (a i st go)), b))
+    (c .attempt-two-2 .ensures)

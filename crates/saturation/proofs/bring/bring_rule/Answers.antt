@@ -72,7 +72,7 @@ returns-in-Order g c =
     let o = c .in-Order .order in
     let new = c .bring-order .last .rows in
     ends-so m Fs ls s (Brings m Fs ls rows s n x) rows n (c .args .waiting .now) new (c .bring-order .last .waiting) (TriedOrder m Fs o (o .wagons) At x) (TriedRule m Fs b number At x) (c .bring-order .result)
-      (λ l tried. rule-order m Fs x b number At new l o (e ∙ c .in-Order .is) tried) (c .bring-order .ensures)
+    (λ l tried. rule-order m Fs x b number At new l o (e ∙ c .in-Order .is) tried) (c .bring-order .ensures)
 
 pub bring-notice-requires : need.bring-notice-requires
 bring-notice-requires g c κs =
@@ -109,4 +109,4 @@ returns-in-Notice g c =
     let d = c .in-Notice .notice in
     let new = c .bring-notice .last .rows in
     ends-so m Fs ls s (Brings m Fs ls rows s n x) rows n (c .args .waiting .now) new (c .bring-notice .last .waiting) (λ later l. (i : ℕ) → i < length Fs → TriedNotice m Fs d x i later l) (TriedRule m Fs b number At x) (c .bring-notice .result)
-      (λ l tried. rule-notice m Fs x b number At new l d (e ∙ c .in-Notice .is) tried) (c .bring-notice .ensures)
+    (λ l tried. rule-notice m Fs x b number At new l d (e ∙ c .in-Notice .is) tried) (c .bring-notice .ensures)

@@ -54,8 +54,8 @@ returns-then-not-keeps g c =
     let worse : T (m .noworse (c .args .row .grade) (row-at m rows i .grade)) = subst (λ f. T (f (c .args .row .grade) (row-at m rows i .grade))) same (turned (g .G·TotalOrder .before) (g .G·TotalOrder·met .total) (c .args .row .grade) (row-at m rows i .grade) (subst (λ y. g .G·TotalOrder .before (y .grade) (c .args .row .grade) ≡ false) x (gone .1))) in
     let new : Waiting (g .G .Denot) = record { grade = c .args .row .grade; row = i } in
     let replaced : Replaced (sooner (m .noworse)) (c .args .waiting .now) (c .requeue .last .waiting) (c .args .found - c .args .settled) (record { grade = row-at m rows i .grade; row = i }) new =
-        subst (λ f. Replaced (sooner f) (c .args .waiting .now) (c .requeue .last .waiting) (c .args .found - c .args .settled) (record { grade = row-at m rows i .grade; row = i }) new) same
-          (subst (λ y. Replaced (sooner (g .G·TotalOrder .before)) (c .args .waiting .now) (c .requeue .last .waiting) (c .args .found - c .args .settled) (record { grade = y .grade; row = i }) new) x (c .requeue .ensures)) in
+    subst (λ f. Replaced (sooner f) (c .args .waiting .now) (c .requeue .last .waiting) (c .args .found - c .args .settled) (record { grade = row-at m rows i .grade; row = i }) new) same
+    (subst (λ y. Replaced (sooner (g .G·TotalOrder .before)) (c .args .waiting .now) (c .requeue .last .waiting) (c .args .found - c .args .settled) (record { grade = y .grade; row = i }) new) x (c .requeue .ensures)) in
     went-better t i (c .args .row) low (c .pre .same .1) (c .pre .row .0) (subst (λ y. c .args .settled ≤ y .rank) x (gone .0)) worse replaced (c .requeue .kept .waiting)
 
 pub returns-else-not-keeps : need.returns-else-not-keeps
@@ -69,7 +69,7 @@ returns-else-not-keeps g c =
     let x : c .index-rows-i .result ≡ row-at m rows i = getD-read rows i (c .index-rows-i .result) (omega arith) (c .index-rows-i .is) (blank-row (m .best)) in
     let same : g .G·TotalOrder .before ≡ m .noworse = λ j a b. c .agrees .ensures a b j in
     let no-worse : T (m .noworse (row-at m rows i .grade) (c .args .row .grade)) =
-        ⊎-elim (λ ranked. c .pre .later i (row-at m rows i) (record { within = low; here = refl; ranked = subst (λ y. y .rank < c .args .settled) x ranked }))
-          (λ h. subst (λ f. T (f (row-at m rows i .grade) (c .args .row .grade))) same (subst T (sym (subst (λ y. g .G·TotalOrder .before (y .grade) (c .args .row .grade) ≡ true) x h)) tt))
-          (c .if-not-keeps .ensures tt .kept refl) in
+    ⊎-elim (λ ranked. c .pre .later i (row-at m rows i) (record { within = low; here = refl; ranked = subst (λ y. y .rank < c .args .settled) x ranked }))
+    (λ h. subst (λ f. T (f (row-at m rows i .grade) (c .args .row .grade))) same (subst T (sym (subst (λ y. g .G·TotalOrder .before (y .grade) (c .args .row .grade) ≡ true) x h)) tt))
+    (c .if-not-keeps .ensures tt .kept refl) in
     went-none t (i, low, key-row (c .args .phases .now) (row-at m rows i) (c .args .row) (c .pre .same .1), no-worse)

@@ -26,7 +26,7 @@ pub returns-in-Break-count : need.returns-in-Break-count
 returns-in-Break-count g c =
     let (worked, long, wide) = c .in-Continue-found .ensures tt in
     at-none _ _ (c .from-residual-in-Break-count .result) (c .from-residual-in-Break-count .ensures)
-      (subst (Outnumber (Derivation (row-rules (lines (c .args .book .now))))) (ap₂ min long wide) (c .in-Break-count .ensures tt))
+    (subst (Outnumber (Derivation (row-rules (lines (c .args .book .now))))) (ap₂ min long wide) (c .in-Break-count .ensures tt))
 
 pub returns : need.returns
 returns g c =

@@ -30,8 +30,8 @@ returns g c =
     let lawful = c .pre .table .lawful in
     let links = c .in-Continue-n .ensures tt in
     let watches = went-on links (λ r h. h) {C = ((k : ℕ) → k < b .linking → LinkBegun m Fs b k (c .begin-watches .last .rows) (c .in-Continue-n-2 .n)) × ((k : ℕ) → k < b .watching → (i : ℕ) → i < length Fs → WatchBegun m Fs b k i (c .begin-watches .last .rows) (c .in-Continue-n-2 .n))}
-        (λ grown a d. ((λ k lt. covers-later _ _ lawful grown (a k lt)), d)) (c .in-Continue-n-2 .ensures tt) in
+    (λ grown a d. ((λ k lt. covers-later _ _ lawful grown (a k lt)), d)) (c .in-Continue-n-2 .ensures tt) in
     let new = c .begin-rules .last .rows in
     begin-ends m Fs b (c .args .rows .now) (c .args .waiting .now) new (c .begin-rules .last .waiting) (c .begin-rules .result)
-      (ends-on watches (λ r h. h) new (c .begin-rules .last .waiting) (λ later n. (k : ℕ) → k < 64 → RuleBegun m Fs b k later n) (Begun m Fs b) (c .begin-rules .result)
-        (λ l grown a d. ((λ k lt. covers-later _ _ lawful grown (a .0 k lt)), (λ k lt i low. covers-later _ _ lawful grown (a .1 k lt i low)), d)) (c .begin-rules .ensures))
+    (ends-on watches (λ r h. h) new (c .begin-rules .last .waiting) (λ later n. (k : ℕ) → k < 64 → RuleBegun m Fs b k later n) (Begun m Fs b) (c .begin-rules .result)
+    (λ l grown a d. ((λ k lt. covers-later _ _ lawful grown (a .0 k lt)), (λ k lt i low. covers-later _ _ lawful grown (a .1 k lt i low)), d)) (c .begin-rules .ensures))

@@ -36,8 +36,8 @@ loop-k-again g c =
     let new = c .begin-link .last .rows in
     let n = c .in-Continue-n .n in
     went-on w (λ r h. h)
-      (λ grown a b. below-next (λ j. LinkBegun m (c .args .phases .now) (c .args .book .now) j (new) (n)) (c .loop-k .k) (λ j lt. covers-later _ _ (w .table .lawful) grown (a j lt)) b)
-      (c .in-Continue-n .ensures tt)
+    (λ grown a b. below-next (λ j. LinkBegun m (c .args .phases .now) (c .args .book .now) j (new) (n)) (c .loop-k .k) (λ j lt. covers-later _ _ (w .table .lawful) grown (a j lt)) b)
+    (c .in-Continue-n .ensures tt)
 
 pub loop-k-holds : need.loop-k-holds
 loop-k-holds g c = went-none (c .pre .table) (λ b h. absurd (omega arith))

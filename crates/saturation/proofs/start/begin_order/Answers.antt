@@ -57,4 +57,4 @@ returns g c =
     let is = c .lone-row-row .ensures in
     let new = begins-order (t .lawful) Fs b o (c .pre .order .0) (c .pre .order .1) i (c .pre .place) (t .phases .different .each i (c .pre .place)) in-force in
     offered (Begins m Fs (lines b)) t (c .offer .last .rows) (c .offer .last .waiting) (c .lone-row-row .result) (row-by-order m o i (Head (o .to .value) i) (m .best) 0 0) is new (OrderBegun m Fs o i) (c .offer .result)
-      (λ l covers lone in-force. subst (Covers m Fs (c .offer .last .rows) l (order-row o (getD Fs i 0) (head (o .to .value) (getD Fs i 0)))) (t .lawful .unitr (m .priced (o .toll))) covers) (c .offer .ensures)
+    (λ l covers lone in-force. subst (Covers m Fs (c .offer .last .rows) l (order-row o (getD Fs i 0) (head (o .to .value) (getD Fs i 0)))) (t .lawful .unitr (m .priced (o .toll))) covers) (c .offer .ensures)

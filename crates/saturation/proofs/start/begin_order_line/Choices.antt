@@ -9,4 +9,4 @@ abbrev pub Inv-loop-place : given.InvT-loop-place
 Inv-loop-place g l =
     let m = g .G·Grade in
     Went m (l .phases) (lines (l .book)) 0 (Begins m (l .phases) (lines (l .book))) (l .entry .rows) (l .found) (l .entry .waiting) (l .rows) (l .n) (l .waiting)
-      ((j : ℕ) → j < l .place → OrderBegun m (l .phases) (l .order) j (l .rows) (l .n))
+    ((j : ℕ) → j < l .place → OrderBegun m (l .phases) (l .order) j (l .rows) (l .n))

@@ -65,7 +65,7 @@ returns-in-Zero g c =
     let o = c .in-Order .order in
     let new = c .begin-order-line .last .rows in
     ends-so m Fs (lines b) 0 (Begins m Fs (lines b)) rows n (c .args .waiting .now) new (c .begin-order-line .last .waiting) (λ later l. (i : ℕ) → i < length Fs → OrderBegun m Fs o i later l) (RuleBegun m Fs b number) (c .begin-order-line .result)
-      (λ l begun. rule-lone m Fs b number new l o (e ∙ c .in-Order .is) begun) (c .begin-order-line .ensures)
+    (λ l begun. rule-lone m Fs b number new l o (e ∙ c .in-Order .is) begun) (c .begin-order-line .ensures)
 
 pub returns-in-One : need.returns-in-One
 returns-in-One g c =

@@ -36,8 +36,8 @@ loop-number-again g c =
     let new = c .begin-rule .last .rows in
     let n = c .in-Continue-n .n in
     went-on w (λ r h. h)
-      (λ grown a b. below-next (λ j. RuleBegun m (c .args .phases .now) (c .args .book .now) j (new) (n)) (c .loop-number .number) (λ j lt o e i low lone in-force. covers-later _ _ (w .table .lawful) grown (a j lt o e i low lone in-force)) b)
-      (c .in-Continue-n .ensures tt)
+    (λ grown a b. below-next (λ j. RuleBegun m (c .args .phases .now) (c .args .book .now) j (new) (n)) (c .loop-number .number) (λ j lt o e i low lone in-force. covers-later _ _ (w .table .lawful) grown (a j lt o e i low lone in-force)) b)
+    (c .in-Continue-n .ensures tt)
 
 pub loop-number-holds : need.loop-number-holds
 loop-number-holds g c = went-none (c .pre .table) (λ b h. absurd (omega arith))

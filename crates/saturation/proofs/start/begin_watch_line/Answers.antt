@@ -36,8 +36,8 @@ loop-place-again g c =
     let new = c .begin-watch .last .rows in
     let n = c .in-Continue-n .n in
     went-on w (λ r h. h)
-      (λ grown a b. below-next (λ j. WatchBegun m (c .args .phases .now) (c .args .book .now) (c .args .k) j (new) (n)) (c .loop-place .place) (λ j lt. covers-later _ _ (w .table .lawful) grown (a j lt)) b)
-      (c .in-Continue-n .ensures tt)
+    (λ grown a b. below-next (λ j. WatchBegun m (c .args .phases .now) (c .args .book .now) (c .args .k) j (new) (n)) (c .loop-place .place) (λ j lt. covers-later _ _ (w .table .lawful) grown (a j lt)) b)
+    (c .in-Continue-n .ensures tt)
 
 pub loop-place-holds : need.loop-place-holds
 loop-place-holds g c = went-none (c .pre .table) (λ b h. absurd (omega arith))

@@ -16,7 +16,7 @@ turn-requires g c κs = record { waits = omega arith; worked = c .loop-left .inv
 pub returns-in-Break-all : need.returns-in-Break-all
 returns-in-Break-all g c =
     at-none _ _ (c .from-residual .result) (c .from-residual .ensures)
-      (subst (Outnumber (Derivation (row-rules (lines (c .args .book .now))))) (ap₂ min (c .loop-left .inv .1) (c .loop-left .inv .2)) (c .in-Break-all .ensures tt))
+    (subst (Outnumber (Derivation (row-rules (lines (c .args .book .now))))) (ap₂ min (c .loop-left .inv .1) (c .loop-left .inv .2)) (c .in-Break-all .ensures tt))
 
 pub loop-left-holds : need.loop-left-holds
 loop-left-holds g c = (c .pre .worked, refl, refl, refl)
