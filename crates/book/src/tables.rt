@@ -15,7 +15,6 @@ use text::line::LinkLine;
 use text::line::WatchLine;
 
 // The lines that stand in an order book. Equal books are equal records: each table is kept in order, the unused rest blank.
-// The crates above read the tables; the ghost fields hold of every book, whoever makes or changes one.
 #[derive(Drop)]
 pub struct Book {
     // an order or notice stands at its own number

@@ -1,0 +1,5 @@
+pub mod Reasons
+pub mod Work
+pub mod Start
+pub mod Finished
+pub mod Refusals
