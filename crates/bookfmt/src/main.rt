@@ -1,5 +1,8 @@
 // Reads an order book from standard input, prints what is refused, the book in its one order, and what was done.
 // With the argument `--book` it prints the book alone.
+
+#![tactic(auto)]
+
 use bookreport::{book_text, report_text};
 use std::env;
 use std::io::{Read, Write};

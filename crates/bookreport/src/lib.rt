@@ -1,4 +1,7 @@
 // What the program bookfmt prints, as functions on bytes.
+
+#![tactic(auto)]
+
 ghost use Rattle.std.specs.Prelude.{◌≡◌, ℕ, ◌+◌, ◌-◌, ◌<◌, ◌≤◌, List, [], ◌∷◌, ◌++◌, length, IfOk, if◌then◌else◌, string_bytes, MatchOption};
 ghost use Rattle.std.specs.List.{flat_map};
 ghost use Rattle.book.specs.Entering.{entered};

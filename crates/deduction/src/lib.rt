@@ -1,6 +1,9 @@
 // Best-first saturation over any deduction system: theorems only, each on a function that does nothing.
 // They hold for items I, rules R and grades G of any types, and for settled and waiting entries, S and W,
 // however these are stored. Code that saturates cites the lemmas in proofs/.
+
+#![tactic(auto)]
+
 ghost use Rattle.deduction.specs.Theorems.{NextIsBest, SettledIsFinal, FinishedIsAll, FinishedIsBest};
 ghost use Rattle.deduction.specs.Theorems.{UnsettledIsBounded, ListIsBounded, ListIsKnown};
 ghost use Rattle.deduction.specs.Theorems.{StartHolds, SettlingKeeps};

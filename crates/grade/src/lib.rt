@@ -1,4 +1,7 @@
 // Tolls, what a move costs, and grades, which the tolls of a run are joined into.
+
+#![tactic(auto)]
+
 mod bounds;
 pub mod class;
 pub mod grade;

@@ -1,4 +1,7 @@
 // Grades and the queue in use, from outside: at minutes, at class and at plain numbers.
+
+#![tactic(auto)]
+
 ghost use Rattle.std.specs.Prelude.{◌≡◌, ◌<◌, ◌⊎◌, length, MatchBool, MatchOption};
 ghost use Rattle.grade.specs.Runs.{run_grade};
 ghost use Rattle.grade.specs.Waits.{sooner};

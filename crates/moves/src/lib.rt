@@ -1,4 +1,7 @@
 // One move as a call, for a simulator: a line as text, a position in plain numbers, and the number to carry out.
+
+#![tactic(auto)]
+
 pub mod export;
 mod lane;
 pub mod moving;

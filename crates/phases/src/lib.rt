@@ -1,4 +1,7 @@
 // The opened phases of a book, and whether the watch holds a position.
+
+#![tactic(auto)]
+
 mod missing;
 mod nodes;
 pub mod opening;

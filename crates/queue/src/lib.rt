@@ -2,6 +2,9 @@
 // order. It is a binary heap: `put`, `take` and `replace` go along one way from the top to the bottom
 // or back, so they take logarithmic time; `find` looks at all entries. A slice that is no queue is
 // refused with nothing changed, or the contract says what comes of it all the same.
+
+#![tactic(auto)]
+
 ghost use Rattle.std.specs.Prelude.{◌≡◌, ◌+◌, ◌<◌, ◌≤◌, ◌⊎◌, length, Decides, MatchOption};
 ghost use Rattle.queue.specs.Queues.{Holds, StandsAt, MayReplace, Put, Taken, Replaced};
 

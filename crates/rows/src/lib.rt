@@ -1,5 +1,8 @@
 // The theory between rows and runs: theorems only, each on a function that does nothing.
 // They hold in every book, and for every grade. Code that saturates, or that follows paths, cites the lemmas in proofs/.
+
+#![tactic(auto)]
+
 ghost use Rattle.rows.specs.Theorems.{Sound, Complete, Unfolds, MovesGrade, WaysAreRuns, TableBest, TableSome, PartBounds};
 ghost use Rattle.rows.specs.Theorems.{ReasonsShow, ReasonsTurn, SameRows};
 

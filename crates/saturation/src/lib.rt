@@ -1,5 +1,8 @@
 // Best-first saturation of a book's rows over a lent row table and lent waiting places. Rows stay at their places: a row that
 // waits gets better or is settled where it stands, and the queue holds its place with its grade.
+
+#![tactic(auto)]
+
 pub mod book_rows;
 mod bring;
 mod keys;

@@ -3,6 +3,9 @@
 // lane, top first. Arguments: `class` grades by class, not by minutes; `moves` shows a best run
 // for each ask, and not the rows; `places=N` gives the row table N places; `time=N` prints how
 // long it took, asking N times, and not what came of it.
+
+#![tactic(auto)]
+
 mod answers;
 mod ask;
 mod blank;

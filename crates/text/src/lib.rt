@@ -1,4 +1,7 @@
 // Lines of an order book as text: the forms, the line reader, and the text of a line.
+
+#![tactic(auto)]
+
 pub mod line;
 mod line_reader;
 pub mod reader;

@@ -1,4 +1,7 @@
 // Runs vectors that a separate model computed: verdicts on single lines, and books written out.
+
+#![tactic(auto)]
+
 use book::refusal::Refusal;
 use bookreport::book_text;
 use std::alloc::{AllocError, Global};

@@ -1,4 +1,7 @@
 // Tests of working out, of the best path and of unfolding it, on examples worked out by hand.
+
+#![tactic(auto)]
+
 #[cfg(test)]
 mod broken;
 #[cfg(test)]
