@@ -7,7 +7,7 @@ use grade::order::TotalOrder;
 
 fn no_worse_at<E: TotalOrder>(places: &[E], i: usize, j: usize) -> bool
     requires { (i < length places.now) × (j < length places.now) }
-    ensures { (d : E) → result ≡ before (at places.now d i) (at places.now d j) }
+    ensures { (d : E) → result ≡ E.before (at places.now d i) (at places.now d j) }
 {
     places[i].no_worse(&places[j])
 }
@@ -16,7 +16,7 @@ fn no_worse_at<E: TotalOrder>(places: &[E], i: usize, j: usize) -> bool
 fn best_child<E: TotalOrder>(places: &[E], p: usize, n: usize) -> usize
     requires { (p * 2 + 1 < n) × (n ≤ length places.now) }
     ensures bound { (p * 2 + 1 ≤ result) × (result ≤ p * 2 + 2) × (result < n) }
-    ensures best { (d : E) → BestChild before (at places.now d) p result n }
+    ensures best { (d : E) → BestChild E.before (at places.now d) p result n }
 {
     let left = p * 2 + 1;
     if left + 1 == n {
@@ -33,7 +33,7 @@ fn best_child<E: TotalOrder>(places: &[E], p: usize, n: usize) -> usize
 pub(crate) fn sift_down<E: TotalOrder>(places: &mut [E], n: usize)
     requires { n ≤ length places.old }
     ensures reordered { Reordered places.old places.new n }
-    ensures heap { (d : E) → HeapBelow before (at places.old d) 1 n → Heap before (at places.new d) n }
+    ensures heap { (d : E) → HeapBelow E.before (at places.old d) 1 n → Heap E.before (at places.new d) n }
 {
     let mut p = 0;
     while p < n / 2 {
@@ -50,7 +50,7 @@ pub(crate) fn sift_down<E: TotalOrder>(places: &mut [E], n: usize)
 pub(crate) fn sift_up<E: TotalOrder>(places: &mut [E], start: usize)
     requires { start < length places.old }
     ensures reordered { (n : ℕ) → start < n → n ≤ length places.old → Reordered places.old places.new n }
-    ensures heap { (n : ℕ) (d : E) → start < n → Rising before (at places.old d) start n → Heap before (at places.new d) n }
+    ensures heap { (n : ℕ) (d : E) → start < n → Rising E.before (at places.old d) start n → Heap E.before (at places.new d) n }
 {
     let mut k = start;
     while 0 < k {

@@ -14,7 +14,7 @@ use grade::order::TotalOrder;
 
 // Puts `entry` into the queue and answers the new count; None where no place is left.
 pub fn put<E: TotalOrder>(queue: &mut [E], count: usize, entry: E) -> Option<usize>
-    ensures { MatchOption result ((length queue.old ≤ count) × (queue.new ≡ queue.old)) (λ n. (n ≡ count + 1) × Put before queue.old queue.new count entry) }
+    ensures { MatchOption result ((length queue.old ≤ count) × (queue.new ≡ queue.old)) (λ n. (n ≡ count + 1) × Put E.before queue.old queue.new count entry) }
 {
     if count >= queue.len() {
         return None;
@@ -27,7 +27,7 @@ pub fn put<E: TotalOrder>(queue: &mut [E], count: usize, entry: E) -> Option<usi
 // Takes the best entry out of the queue, which is one shorter then, and leaves a copy in the place
 // that falls free; None where the queue is empty, or there are fewer places than `count`.
 pub fn take<E: TotalOrder>(queue: &mut [E], count: usize) -> Option<E>
-    ensures { MatchOption result (((count ≡ 0) ⊎ (length queue.old < count)) × (queue.new ≡ queue.old)) (λ best. Taken before queue.old queue.new count best) }
+    ensures { MatchOption result (((count ≡ 0) ⊎ (length queue.old < count)) × (queue.new ≡ queue.old)) (λ best. Taken E.before queue.old queue.new count best) }
 {
     if count == 0 || count > queue.len() {
         return None;
@@ -61,7 +61,7 @@ pub fn find<E: TotalOrder>(queue: &[E], count: usize, wanted: &E) -> Option<usiz
 // Puts `entry` into the queue for the one at `place`, which it answers; None where nothing of the
 // queue stands there, or where `entry` is worse.
 pub fn replace<E: TotalOrder>(queue: &mut [E], count: usize, place: usize, entry: E) -> Option<E>
-    ensures { MatchOption result ((MayReplace before queue.old count place entry → ⊥) × (queue.new ≡ queue.old)) (λ old. StandsAt queue.old count place old × Replaced before queue.old queue.new count old entry) }
+    ensures { MatchOption result ((MayReplace E.before queue.old count place entry → ⊥) × (queue.new ≡ queue.old)) (λ old. StandsAt queue.old count place old × Replaced E.before queue.old queue.new count old entry) }
 {
     if count > queue.len() || place >= count {
         return None;
