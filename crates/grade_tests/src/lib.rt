@@ -26,7 +26,7 @@ pub fn run_grade<G: Grade>(tolls: &[Toll]) -> G
 
 // Takes out the waiting row that goes next: of a queue, no row that waits has a better grade.
 pub fn next_row<G: Grade>(waiting: &mut [Waiting<G>], count: usize) -> Option<Waiting<G>>
-    ensures { MatchOption result ((count ≡ 0) ⊎ (length waiting.old < count)) (λ next. Queue (sooner G.TotalOrder.before) waiting.old count → NoneBetter noworse waiting.old count next) }
+    ensures { MatchOption result ((count ≡ 0) ⊎ (length waiting.old < count)) (λ next. Queue (sooner G.TotalOrder.before) waiting.old count → NoneBetter G.Grade.noworse waiting.old count next) }
 {
     G::agrees();
     queue::take(waiting, count)

@@ -18,4 +18,4 @@ module _ {X : Type 0} (f : X → X → Bool) (xs ys : List X) (n place : ℕ) (o
 
 pub returns-in-Some : goal.returns-in-Some
 returns-in-Some g c =
-    told_by _ c.args.waiting.now c.replace.new.queue c.args.count c.in-Some.place _ _ c.in-Some.ensures _ c.replace.result _ c.is-some.ensures c.replace.ensures
+    told_by _ c.args.waiting.now c.replace.new.queue c.args.count c.in-Some.place _ _ c.in-Some.ensures _ c.replace.result _ c.is_some.ensures c.replace.ensures

@@ -4,7 +4,7 @@ use Rattle.grade.specs.Runs.{joined_on}
 use Rattle.grade_tests.proofs.run_grade.Goals as goal
 
 pub loop-toll-init : goal.loop-toll-init
-loop-toll-init g c = ap (λ a. joined_on g.G.Grade a c.args.tolls.now) c.best-grade-all.ensures
+loop-toll-init g c = ap (λ a. joined_on g.G.Grade a c.args.tolls.now) c.best_grade-all.ensures
 
 pub loop-toll-preserved : goal.loop-toll-preserved
 loop-toll-preserved g c =
@@ -12,7 +12,7 @@ loop-toll-preserved g c =
     let l = c.loop-toll in
     let ts = c.args.tolls.now in
     let t = c.toll-item in
-    let all = c.joined-all.ensures ∙ ap (m.join l.all) (c.of-toll.ensures ∙ ap m.priced t.is) in
+    let all = c.joined-all.ensures ∙ ap (m.join l.all) (c.of_toll.ensures ∙ ap m.priced t.is) in
     ap (λ a. joined_on m a (drop (l.toll-index + 1) ts)) all
     ∙ sym (at_drop_more (joined_on m l.all) ts l.toll-index t.result c.loop-toll-test.true)
     ∙ l.invariant

@@ -6,7 +6,7 @@ use Rattle.text.proofs.reader.read_line.Goals as goal
 pub returns : goal.returns
 returns c =
     let s = c.args.line.now in
-    let e = c.read-named.ensures in
+    let e = c.read_named.ensures in
     record {
       value = e;
       says = subst (Says s) (sym e) (reads_right s).0;

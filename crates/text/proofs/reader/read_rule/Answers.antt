@@ -9,8 +9,8 @@ use Rattle.text.proofs.reader.read_rule.Goals as goal
 pub returns : goal.returns
 returns c =
     let s = c.args.line.now in
-    let r = c.read-named-rule.result in
-    let e = c.read-named-rule.ensures in
+    let r = c.read_named_rule.result in
+    let e = c.read_named_rule.ensures in
     let (says, alone) = reads_as rule_forms rules_chosen s in
     let here = subst (SaysAs rule_forms s) (sym e) says in
     record {

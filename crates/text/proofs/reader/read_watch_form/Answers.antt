@@ -6,16 +6,16 @@ use Rattle.text.proofs.reader.read_watch_form.Goals as goal
 pub returns-in-Some : goal.returns-in-Some
 returns-in-Some c = c.watch.ensures ∙ sym (read_watch _ _ c.requires.short c.in-Some.ensures)
 
-pub returns-in-Some-after-link : goal.returns-in-Some-after-link
-returns-in-Some-after-link c = c.link.ensures ∙ sym (read_link _ _ c.requires.short c.in-Some-after-link.ensures)
+pub returns-in-Some-after_link : goal.returns-in-Some-after_link
+returns-in-Some-after_link c = c.link.ensures ∙ sym (read_link _ _ c.requires.short c.in-Some-after_link.ensures)
 
-pub returns-in-Some-after-end : goal.returns-in-Some-after-end
-returns-in-Some-after-end c = c.end-node.ensures ∙ sym (read_end _ _ c.requires.short c.in-Some-after-end.ensures)
+pub returns-in-Some-after_end : goal.returns-in-Some-after_end
+returns-in-Some-after_end c = c.end_node.ensures ∙ sym (read_end _ _ c.requires.short c.in-Some-after_end.ensures)
 
-pub returns-in-Some-after-bare : goal.returns-in-Some-after-bare
-returns-in-Some-after-bare c = c.bare.ensures ∙ sym (read_bare _ _ c.requires.short c.in-Some-after-bare.ensures)
+pub returns-in-Some-after_bare : goal.returns-in-Some-after_bare
+returns-in-Some-after_bare c = c.bare.ensures ∙ sym (read_bare _ _ c.requires.short c.in-Some-after_bare.ensures)
 
 pub returns : goal.returns
 returns c =
     ap (λ (n : ℕ). Err (Syntax n)) c.unnamed.ensures
-    ∙ sym (read_none c.args.line.now c.requires.short c.requires.other.0 c.requires.other.1.0 c.requires.other.1.1 c.in-default.ensures c.in-default-after-link.ensures c.in-default-after-end.ensures c.in-default-after-bare.ensures)
+    ∙ sym (read_none c.args.line.now c.requires.short c.requires.other.0 c.requires.other.1.0 c.requires.other.1.1 c.in_default.ensures c.in_default-after_link.ensures c.in_default-after_end.ensures c.in_default-after_bare.ensures)

@@ -7,5 +7,5 @@ use Rattle.text.proofs.writer.put_open.Goals as goal
 
 pub returns : goal.returns
 returns c =
-    put_then (codes "(open") _ c.put-word-i.ensures
-    (put_then (flat_map blank_number (members c.args.phase)) (codes ")") c.put-phase-i.ensures.text c.put-word.ensures)
+    put_then (codes "(open") _ c.put_word-i.ensures
+    (put_then (flat_map blank_number (members c.args.phase)) (codes ")") c.put_phase-i.ensures.text c.put_word.ensures)

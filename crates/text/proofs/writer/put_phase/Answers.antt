@@ -10,7 +10,7 @@ pub loop-n-preserved : goal.loop-n-preserved
 loop-n-preserved c =
     let h = c.loop-n.invariant in
     elim c.if-phase-n-eq1.branch [
-      | then-phase-n-eq1 w ↦ rw (w.out-is, w.i-is) (omega (arith, h.0, w.put-blank-number-i.ensures.few), put_member c.args.phase c.loop-n.n h.1 w.if-phase-n-eq1.true w.put-blank-number-i.ensures.text)
+      | then-phase-n-eq1 w ↦ rw (w.out-is, w.i-is) (omega (arith, h.0, w.put_blank_number-i.ensures.few), put_member c.args.phase c.loop-n.n h.1 w.if-phase-n-eq1.true w.put_blank_number-i.ensures.text)
       | else-phase-n-eq1 w ↦ rw (w.out-is, w.i-is) (omega (arith, h.0), skip_member c.args.phase c.loop-n.n h.1 w.if-phase-n-eq1.false)
     ]
 

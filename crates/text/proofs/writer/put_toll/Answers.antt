@@ -7,6 +7,6 @@ pub returns : goal.returns
 returns c =
     let t = c.args.toll in
     record {
-      few = omega (arith, c.put-word-i.ensures.next, c.put-pair-i.ensures.few, c.put-word.ensures.next);
-      text = put_then (codes " (") _ c.put-word-i.ensures (put_both (decimal t.minutes.value) (blank_number t.class.value) (codes "))") c.put-pair-i.ensures.text c.put-word.ensures);
+      few = omega (arith, c.put_word-i.ensures.next, c.put_pair-i.ensures.few, c.put_word.ensures.next);
+      text = put_then (codes " (") _ c.put_word-i.ensures (put_both (decimal t.minutes.value) (blank_number t.class.value) (codes "))") c.put_pair-i.ensures.text c.put_word.ensures);
     }

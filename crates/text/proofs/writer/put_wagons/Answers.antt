@@ -13,15 +13,15 @@ returns-in-Zero c =
 
 pub returns-in-One : goal.returns-in-One
 returns-in-One c =
-    let P : Wagons → Type 0 = λ ws. Put c.args.out.now c.args.at (flat_map blank_wagon (listed ws)) c.put-blank-number.new.out c.put-blank-number.result in
-    record { few = omega (arith, c.put-blank-number.ensures.few); text = subst P (sym c.in-One.is) (put_end (blank_wagon c.in-One.a) c.put-blank-number.ensures.text) }
+    let P : Wagons → Type 0 = λ ws. Put c.args.out.now c.args.at (flat_map blank_wagon (listed ws)) c.put_blank_number.new.out c.put_blank_number.result in
+    record { few = omega (arith, c.put_blank_number.ensures.few); text = subst P (sym c.in-One.is) (put_end (blank_wagon c.in-One.a) c.put_blank_number.ensures.text) }
 
 pub returns-in-Two : goal.returns-in-Two
 returns-in-Two c =
-    let P : Wagons → Type 0 = λ ws. Put c.args.out.now c.args.at (flat_map blank_wagon (listed ws)) c.put-blank-number-in-Two.new.out c.put-blank-number-in-Two.result in
+    let P : Wagons → Type 0 = λ ws. Put c.args.out.now c.args.at (flat_map blank_wagon (listed ws)) c.put_blank_number-in-Two.new.out c.put_blank_number-in-Two.result in
     let a = blank_wagon c.in-Two.a in
     let b = blank_wagon c.in-Two.b in
     record {
-      few = omega (arith, c.put-blank-number-i.ensures.few, c.put-blank-number-in-Two.ensures.few);
-      text = subst P (sym c.in-Two.is) (put_then a (b ++ []) c.put-blank-number-i.ensures.text (put_end b c.put-blank-number-in-Two.ensures.text));
+      few = omega (arith, c.put_blank_number-i.ensures.few, c.put_blank_number-in-Two.ensures.few);
+      text = subst P (sym c.in-Two.is) (put_then a (b ++ []) c.put_blank_number-i.ensures.text (put_end b c.put_blank_number-in-Two.ensures.text));
     }

@@ -3,13 +3,13 @@ use Rattle.std.proofs.lemmas.Result.{err_from_is_err_and}
 use Rattle.text.specs.Reading.{take_numbers}
 use Rattle.text.proofs.line_reader.LineReader.another.Goals as goal
 
-pub returns-in-err-x : goal.returns-in-err-x
-returns-in-err-x g c =
-    let x = err_from_is_err_and c.from-residual.result c.from-residual.ensures.1 in
+pub returns-in_err-x : goal.returns-in_err-x
+returns-in_err-x g c =
+    let x = err_from_is_err_and c.from_residual.result c.from_residual.ensures.1 in
     rw x.1 (λ n rise next. c.if-not-blank.ensures n g.row.MAX c.args.least rise next
-    ∙ c.in-err-x.ensures (λ x t q o f. take_numbers n g.row.MAX rise (cond rise (x.value + 1) 0) t q o f (λ xs. next (x ∷ xs))) ∙ ap Err (sym x.2))
+    ∙ c.in_err-x.ensures (λ x t q o f. take_numbers n g.row.MAX rise (cond rise (x.value + 1) 0) t q o f (λ xs. next (x ∷ xs))) ∙ ap Err (sym x.2))
 
 pub returns : goal.returns
 returns g c =
     λ n rise next. c.if-not-blank.ensures n g.row.MAX c.args.least rise next
-    ∙ c.in-ok-x.ensures (λ x t q o f. take_numbers n g.row.MAX rise (cond rise (x.value + 1) 0) t q o f (λ xs. next (x ∷ xs)))
+    ∙ c.in_ok-x.ensures (λ x t q o f. take_numbers n g.row.MAX rise (cond rise (x.value + 1) 0) t q o f (λ xs. next (x ∷ xs)))

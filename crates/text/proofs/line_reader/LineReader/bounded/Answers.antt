@@ -5,7 +5,7 @@ use Rattle.text.proofs.line_reader.LineReader.bounded.Goals as goal
 
 pub returns : goal.returns
 returns g c =
-    λ next. number_off c.args.self.now c.numeral.new.self g.row.MAX c.args.least c.in-ok-n.n c.first-noted-self.result c.first-noted-self-2.result c.within-x.result next
-    (omega (arith, g.MAX.fits)) c.in-ok-n.ensures c.within-x.ensures
-    (c.first-noted-self.ensures ∙ (λ i. noted c.numeral.new.self.over c.args.self.now.place (ltb (c.from.ensures i) c.in-ok-n.n)))
-    c.first-noted-self-2.ensures
+    λ next. number_off c.args.self.now c.numeral.new.self g.row.MAX c.args.least c.in_ok-n.n c.first_noted-self.result c.first_noted-self-2.result c.within-x.result next
+    (omega (arith, g.MAX.fits)) c.in_ok-n.ensures c.within-x.ensures
+    (c.first_noted-self.ensures ∙ (λ i. noted c.numeral.new.self.over c.args.self.now.place (ltb (c.from.ensures i) c.in_ok-n.n)))
+    c.first_noted-self-2.ensures

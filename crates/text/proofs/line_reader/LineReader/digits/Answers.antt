@@ -11,11 +11,11 @@ loop-self-preserved c =
     let front = lead (d ∷ []) s (search rules) (refl, tt) in
     ((v * 10 + (d - 48), (omega arith), sym (digits_more v _ d s _ front (search rules) (search rules)) ∙ c.loop-self.invariant.0.2), c.loop-self.invariant.1, c.loop-self.invariant.2)
 
-pub returns-in-default : goal.returns-in-default
-returns-in-default c = let h = c.loop-self.invariant in stopped _ _ h.0.0 _ h.0.1 h.0.2 h.1 h.2 (λ some lo hi. search rules)
+pub returns-in_default : goal.returns-in_default
+returns-in_default c = let h = c.loop-self.invariant in stopped _ _ h.0.0 _ h.0.1 h.0.2 h.1 h.2 (λ some lo hi. search rules)
 
-pub returns-in-default·2 : goal.returns-in-default·2
-returns-in-default·2 c = let h = c.loop-self.invariant in stopped _ _ h.0.0 _ h.0.1 h.0.2 h.1 h.2 (λ some lo hi. search rules)
+pub returns-in_default-2 : goal.returns-in_default-2
+returns-in_default-2 c = let h = c.loop-self.invariant in stopped _ _ h.0.0 _ h.0.1 h.0.2 h.1 h.2 (λ some lo hi. search rules)
 
-pub returns-in-default·3 : goal.returns-in-default·3
-returns-in-default·3 c = let h = c.loop-self.invariant in stopped _ _ h.0.0 _ h.0.1 h.0.2 h.1 h.2 (λ some lo hi. search rules)
+pub returns-in_default-3 : goal.returns-in_default-3
+returns-in_default-3 c = let h = c.loop-self.invariant in stopped _ _ h.0.0 _ h.0.1 h.0.2 h.1 h.2 (λ some lo hi. search rules)
