@@ -1,7 +1,7 @@
 -- The lines of a book: of each kind in order, all together sorted; how a line is added. Assumes nothing.
 use Rattle.std.proofs.Common.{◌≡◌, ℕ, ◌+◌, ◌^◌, ◌<◌, ◌≤◌, Bool, true, false, cond, ltb, ◌⊎◌, List, [], ◌∷◌, ◌++◌, map, length, take, sym, refl, ap, ◌∙◌, subst, inl, inr, ⊎_elim, arith}
 use native.Mathlib.Bridge.{le_prop}
-use base.Stored.{CodedSet, coded_ℕ}
+use base.Stored.{Coded-set, coded_ℕ}
 use Rattle.std.specs.List.{flat_map, AllByRecursion as All}
 use Rattle.std.proofs.lemmas.List.{length-map, length-take-le}
 use Rattle.std.proofs.lemmas.Bool.{cond-false, le-ltb}
@@ -28,8 +28,8 @@ use Rattle.book.proofs.Seats.{Seat, Seated, along_told, along_weaker, along_belo
 
 at_number_prop : (n : ℕ) (r : Rule) → IsProp (AtNumber n r)
 at_number_prop n Free p q = refl
-at_number_prop n (Order o) p q = CodedSet coded_ℕ o.number.value n p q
-at_number_prop n (Notice o) p q = CodedSet coded_ℕ o.number.value n p q
+at_number_prop n (Order o) p q = Coded-set coded_ℕ o.number.value n p q
+at_number_prop n (Notice o) p q = Coded-set coded_ℕ o.number.value n p q
 
 rule_seat : (n : ℕ) (r : Rule) → AtNumber n r → Seat rules n (rule_line n r)
 rule_seat n Free h = inl refl

@@ -1,6 +1,6 @@
 -- A book is told by its lines, and so by its text. Assumes nothing.
 use Rattle.std.proofs.Common.{◌≡◌, ℕ, ◌+◌, ◌-◌, ◌<◌, ◌≤◌, Bool, true, false, cond, ◌↔◌, List, [], ◌∷◌, ◌++◌, map, length, take, drop, replicate, Ok, Err, Result, sym, refl, ap, ◌∙◌, subst, arith}
-use denote.Struct.Cover.{CoverOne}
+use denote.Struct.Cover.{Cover-one}
 use Rattle.std.specs.List.{ContainsAt as Has, flat_map, AllByRecursion as All}
 use Rattle.std.proofs.lemmas.List.{length-map, length-take-le, take-append-drop}
 use Rattle.std.proofs.ByRecursion.{All-weaker, All-append}
@@ -100,7 +100,7 @@ told_by_lines b c same =
     let k = rows_same line.Link (λ x y e. cc) link_rank blank_link 128 c.links b.links c.linking b.linking c.linked b.linked (of links) in
     let n = seats_same end_line ends (λ m. flag_same (line.End (kept 63 m))) 0 c.ends b.ends (c.marked.0 ∙ sym b.marked.0) (ends_seated c) (ends_seated b) (of ends) in
     let p = seats_same bare_line bares (λ m. flag_same (line.Bare (kept 15 m))) 0 c.bares b.bares (c.marked.1 ∙ sym b.marked.1) (bares_seated c) (bares_seated b) (of bares) in
-    CoverOne the_type.cover the_type.propositions c b (λ i. (r i, (o.0 i, (o.1 i, (w.0 i, (w.1 i, (k.0 i, (k.1 i, (n i, (p i, tt))))))))))
+    Cover-one the_type.cover the_type.propositions c b (λ i. (r i, (o.0 i, (o.1 i, (w.0 i, (w.1 i, (k.0 i, (k.1 i, (n i, (p i, tt))))))))))
 
 pub tells : (b : Book) → Tells b
 tells b = record { sorted = sorted_lines b; once = sorted_once (lines b) (sorted_lines b); back = reads_back b; text = told_by_text b; same = told_by_lines b }

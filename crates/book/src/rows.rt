@@ -40,7 +40,7 @@ impl Ranked for LinkLine {
 
 // Whether a row with x's rank is among these.
 pub(crate) fn contains<T: Ranked>(rows: &[T], x: &T) -> bool
-    ensures { result ≡ among rank (rank x.now) rows.now }
+    ensures { result ≡ among T.rank (T.rank x.now) rows.now }
 {
     let key = x.key();
     for i in 0..rows.len() {
@@ -53,7 +53,7 @@ pub(crate) fn contains<T: Ranked>(rows: &[T], x: &T) -> bool
 
 // How many rows in front have a rank below `key`.
 fn position<T: Ranked>(rows: &[T], key: u64) -> usize
-    ensures count { result ≡ lower rank key rows.now }
+    ensures count { result ≡ lower T.rank key rows.now }
     ensures few { result ≤ length rows.now }
 {
     for i in 0..rows.len() {
@@ -67,7 +67,7 @@ fn position<T: Ranked>(rows: &[T], key: u64) -> usize
 // Puts x at its place among the first n rows; those behind it move up by one.
 pub(crate) fn place<T: Ranked + Copy>(rows: &mut [T], n: usize, x: T)
     requires { n < length rows.old }
-    ensures used { take (n + 1) rows.new ≡ put rank x (take n rows.old) }
+    ensures used { take (n + 1) rows.new ≡ put T.rank x (take n rows.old) }
     ensures rest { drop (n + 1) rows.new ≡ drop (n + 1) rows.old }
 {
     let p = position(&rows[0..n], x.key());

@@ -4,7 +4,7 @@ use Rattle.std.proofs.Common.{◌≡◌, ℕ, zero, suc, ◌+◌, ◌<◌, Bool,
 use mathlib.Core.HLevel.{is_prop→PathP}
 use mathlib.Core.Logic.{∥∥₁_elim, ∥∥₁_map}
 use native.Mathlib.Bridge.{le_prop}
-use base.Stored.{CodedSet, coded_ℕ, coded_bool}
+use base.Stored.{Coded-set, coded_ℕ, coded_bool}
 use Rattle.std.specs.List.{ContainsAt as Has, flat_map}
 use Rattle.std.proofs.ByRecursion.{has_append_left, has_append_right}
 use Rattle.std.proofs.lemmas.Bool.{cases_lt, cases_order, cases_Bool, and_parts, and_from, cond_both, cond-true, both_ways}
@@ -127,8 +127,8 @@ module _ (f : ℕ → Bool) where
       let e : a.0 ≡ b.0 = ⊎_elim (λ e. e) (⊎_elim (λ lt. absurd (less a b lt)) (λ gt. absurd (less b a gt))) (cases_order a.0 b.0) in
       λ i. (
         e i,
-        is_prop→PathP (λ j. f (e j) ≡ true) (λ j. CodedSet coded_bool (f (e j)) true) a.1 b.1 i,
-        is_prop→PathP (λ j. (k : ℕ) → k < e j → f k ≡ false) (λ j g h u k lt. CodedSet coded_bool (f k) false (g k lt) (h k lt) u) a.2 b.2 i,
+        is_prop→PathP (λ j. f (e j) ≡ true) (λ j. Coded-set coded_bool (f (e j)) true) a.1 b.1 i,
+        is_prop→PathP (λ j. (k : ℕ) → k < e j → f k ≡ false) (λ j g h u k lt. Coded-set coded_bool (f k) false (g k lt) (h k lt) u) a.2 b.2 i,
       )
 
 -- ---- out of a ghost field
@@ -145,14 +145,14 @@ told ls F h =
 
 pub opened_by_told : (ls : List Line) (p : Phases) → ∥ OpenedBy ls p ∥₁ → OpenedBy ls p
 opened_by_told ls p h =
-    let apart : (k l : ℕ) → k < p.count → l < p.count → phase_at p k ≡ phase_at p l → k ≡ l = λ k l a b e. ∥∥₁_elim h (CodedSet coded_ℕ k l) (λ by. by.filled.different.apart k l a b e) in
+    let apart : (k l : ℕ) → k < p.count → l < p.count → phase_at p k ≡ phase_at p l → k ≡ l = λ k l a b e. ∥∥₁_elim h (Coded-set coded_ℕ k l) (λ by. by.filled.different.apart k l a b e) in
     let one : (F : ℕ) → IsProp (Holds p F) = λ F a b.
     let e = apart a.0 b.0 a.1 b.1 (a.2 ∙ sym b.2) in
-    λ i. (e i, is_prop→PathP (λ j. e j < p.count) (λ j. le_prop) a.1 b.1 i, is_prop→PathP (λ j. phase_at p (e j) ≡ F) (λ j. CodedSet coded_ℕ (phase_at p (e j)) F) a.2 b.2 i) in
+    λ i. (e i, is_prop→PathP (λ j. e j < p.count) (λ j. le_prop) a.1 b.1 i, is_prop→PathP (λ j. phase_at p (e j) ≡ F) (λ j. Coded-set coded_ℕ (phase_at p (e j)) F) a.2 b.2 i) in
     record {
       filled = record {
         different = record { apart = apart; each = λ k lt. told ls (phase_at p k) (∥∥₁_map h (λ by. by.filled.different.each k lt)) };
         all = λ F o. ∥∥₁_elim h (one F) (λ by. by.filled.all F o);
       };
-      blank = λ k le. ∥∥₁_elim h (CodedSet coded_ℕ (phase_at p k) 0) (λ by. by.blank k le);
+      blank = λ k le. ∥∥₁_elim h (Coded-set coded_ℕ (phase_at p k) 0) (λ by. by.blank k le);
     }

@@ -11,6 +11,6 @@ returns g c =
     let n = c.args.n in
     let at = c.position-p.ensures.count ∙ (λ i. lower rank (c.key.ensures i) (take (sub-zero n i) rows)) in
     record {
-      used = placed_used rank rows n c.position-p.result c.args.x c.requires at c.rotate-right.new.self c.rotate-right.ensures.after;
-      rest = placed_rest rank rows n c.position-p.result c.args.x c.requires at c.rotate-right.new.self c.rotate-right.ensures.after;
+      used = placed_used rank rows n c.position-p.result c.args.x c.requires at c.rotate_right.new.self c.rotate_right.ensures.after;
+      rest = placed_rest rank rows n c.position-p.result c.args.x c.requires at c.rotate_right.new.self c.rotate_right.ensures.after;
     }

@@ -15,9 +15,9 @@ returns c =
     let to = n.to.value in
     let allows = c.if-not-allowed.ensures.0 refl in
     let z : c.args.len - 0 ≡ c.args.len = omega arith in
-    ap (λ F. told (Ok (record { mode = to; phase = F; len = c.args.len })) b) c.after-notice.ensures
+    ap (λ F. told (Ok (record { mode = to; phase = F; len = c.args.len })) b) c.after_notice.ensures
     ∙ sym (says_moved (Notice n) (at c.args.mode c.args.phase (take c.args.len b)) b
     (and_from _ _ allows.itself allows.withdrawn)
-    (subst (λ k. takes (Notice n) c.args.mode (take k b) ≡ true) z (sym c.if-not-takes-notice.ensures))
+    (subst (λ k. takes (Notice n) c.args.mode (take k b) ≡ true) z (sym c.if-not-takes_notice.ensures))
     (omega (arith, length-take-le c.args.len b c.requires))
     ∙ lane_stays b c.args.len to (after n c.args.phase) c.requires)

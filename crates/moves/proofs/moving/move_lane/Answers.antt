@@ -10,7 +10,7 @@ returns-in-Ok c =
     let h = handed c.args.mode c.args.phase c.args.buffer.now c.args.len c.args.number in
     let x = Ok c.in-Ok.rule in
     let read = c.in-Ok.ensures in
-    let e = c.carry-out.ensures in
+    let e = c.carry_out.ensures in
     record {
       value = e ∙ ap (λ y. text_says y h) read.value;
       right = subst (λ t. Right s h t.answer t.buffer) (sym e) (text_right s h x read.says read.alone);

@@ -24,14 +24,14 @@ returns-then-stands c =
       words = (l, (h.says, clash_right ls l (within_lines c.args.self.now) h.says.0 clash));
     }
 
-pub returns-then-is-full : goal.returns-then-is-full
-returns-then-is-full c =
+pub returns-then-is_full : goal.returns-then-is_full
+returns-then-is_full c =
     let ls = lines c.args.self.now in
     let s = c.args.text.now in
     let l = c.in-Ok.line in
     let h = c.in-Ok.ensures in
     let new = sym c.stands.ensures ∙ c.if-stands.false in
-    let most = sym c.is-full.ensures ∙ c.if-is-full.true in
+    let most = sym c.is_full.ensures ∙ c.if-is_full.true in
     record {
       entered = (was_full ls s l h.value new most, refl);
       words = (l, (h.says, (unbarred ls l new, most)));
@@ -44,7 +44,7 @@ returns c =
     let l = c.in-Ok.line in
     let h = c.in-Ok.ensures in
     let new = sym c.stands.ensures ∙ c.if-stands.false in
-    let room = sym c.is-full.ensures ∙ c.if-is-full.false in
+    let room = sym c.is_full.ensures ∙ c.if-is_full.false in
     record {
       entered = went_in ls s l h.value new room ∙ ap Ok (sym c.enter.ensures);
       words = joins ls s l h.value new room h.says (lines c.enter.new.self) c.enter.ensures;

@@ -35,8 +35,8 @@ place-requires-in-Link c =
     let room = rows_room (links_rows b) (subst (λ l. full (lines b) l ≡ false) c.in-Link.is c.requires.room) in
     omega arith
 
-pub invariant-of-self : goal.invariant-of-self
-invariant-of-self c =
+pub invariant_of-self : goal.invariant_of-self
+invariant_of-self c =
     let b = c.args.self.now in
     let i = c.get.result in
     let r = rule.Order c.in-Order.o in (
@@ -44,8 +44,8 @@ invariant-of-self c =
       (b.phases, (b.opened, (b.watched, (b.linked, (b.marked, tt))))),
     )
 
-pub invariant-of-self-in-Notice : goal.invariant-of-self-in-Notice
-invariant-of-self-in-Notice c =
+pub invariant_of-self-in-Notice : goal.invariant_of-self-in-Notice
+invariant_of-self-in-Notice c =
     let b = c.args.self.now in
     let i = c.get-in-Notice.result in
     let r = rule.Notice c.in-Notice.n in (
@@ -53,8 +53,8 @@ invariant-of-self-in-Notice c =
       (b.phases, (b.opened, (b.watched, (b.linked, (b.marked, tt))))),
     )
 
-pub invariant-of-self-in-Open : goal.invariant-of-self-in-Open
-invariant-of-self-in-Open c =
+pub invariant_of-self-in-Open : goal.invariant_of-self-in-Open
+invariant_of-self-in-Open c =
     let b = c.args.self.now in
     let x = c.in-Open.phase in
     let after = c.place.new.rows in
@@ -63,8 +63,8 @@ invariant-of-self-in-Open c =
     let tidy = rows_tidy (opens_rows b) x after done.used within (subst (λ l. clashes (lines b) l ≡ false) c.in-Open.is c.requires.new) (subst (λ l. full (lines b) l ≡ false) c.in-Open.is c.requires.room) c.place.auto.rows done.rest in
     (b.numbered, (∣ all_placed phase_rank (λ F. F < 2 ^ 64) b.opens after b.opening x within (phases b) done.used done.rest ∣₁, (tidy, (b.watched, (b.linked, (b.marked, tt))))))
 
-pub invariant-of-self-in-Watch : goal.invariant-of-self-in-Watch
-invariant-of-self-in-Watch c =
+pub invariant_of-self-in-Watch : goal.invariant_of-self-in-Watch
+invariant_of-self-in-Watch c =
     let b = c.args.self.now in
     let x = c.in-Watch.w in
     let after = c.place-in-Watch.new.rows in
@@ -72,8 +72,8 @@ invariant-of-self-in-Watch c =
     let tidy = rows_tidy (watches_rows b) x after done.used tt (subst (λ l. clashes (lines b) l ≡ false) c.in-Watch.is c.requires.new) (subst (λ l. full (lines b) l ≡ false) c.in-Watch.is c.requires.room) c.place-in-Watch.auto.rows done.rest in
     (b.numbered, (b.phases, (b.opened, (tidy, (b.linked, (b.marked, tt))))))
 
-pub invariant-of-self-in-Link : goal.invariant-of-self-in-Link
-invariant-of-self-in-Link c =
+pub invariant_of-self-in-Link : goal.invariant_of-self-in-Link
+invariant_of-self-in-Link c =
     let b = c.args.self.now in
     let x = c.in-Link.k in
     let after = c.place-in-Link.new.rows in

@@ -5,8 +5,8 @@ use Rattle.book.specs.Lines.{lines}
 use Rattle.book.proofs.Seats.{along_same}
 use Rattle.book.proofs.tables.Book.new.Goals as goal
 
-pub invariant-of-result : goal.invariant-of-result
-invariant-of-result c = (
+pub invariant_of-result : goal.invariant_of-result
+invariant_of-result c = (
   (refl, ∣ along_same AtNumber Free (λ _. tt) 64 0 ∣₁),
   (
     ∣ omega arith ∣₁,

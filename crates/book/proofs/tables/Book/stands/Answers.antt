@@ -14,13 +14,13 @@ pub returns-in-Order : goal.returns-in-Order
 returns-in-Order c =
     let b = c.args.self.now in
     let fits = c.in-Order.o.number.fits in
-    c.has-rule.ensures ∙ sym (ap (clashes (lines b)) c.in-Order.is ∙ rule_clash b (Order c.in-Order.o) c.get.result refl tt (sym c.get.ensures) (omega arith))
+    c.has_rule.ensures ∙ sym (ap (clashes (lines b)) c.in-Order.is ∙ rule_clash b (Order c.in-Order.o) c.get.result refl tt (sym c.get.ensures) (omega arith))
 
 pub returns-in-Notice : goal.returns-in-Notice
 returns-in-Notice c =
     let b = c.args.self.now in
     let fits = c.in-Notice.n.number.fits in
-    c.has-rule-in-Notice.ensures ∙ sym (ap (clashes (lines b)) c.in-Notice.is ∙ rule_clash b (Notice c.in-Notice.n) c.get-in-Notice.result refl tt (sym c.get-in-Notice.ensures) (omega arith))
+    c.has_rule-in-Notice.ensures ∙ sym (ap (clashes (lines b)) c.in-Notice.is ∙ rule_clash b (Notice c.in-Notice.n) c.get-in-Notice.result refl tt (sym c.get-in-Notice.ensures) (omega arith))
 
 pub returns-in-Open : goal.returns-in-Open
 returns-in-Open c =

@@ -5,7 +5,7 @@ use Rattle.book.specs.Writing.{ended, book_text}
 use Rattle.book.proofs.Places.{below}
 use Rattle.book.proofs.Written.{ended_length, text_more, none_more, all_counted, none_written}
 use Rattle.book.proofs.tables.Book.text_len.Goals as goal
-use Rattle.book.proofs.tables.Book.text_len.Goals.{in-Some, in-default}
+use Rattle.book.proofs.tables.Book.text_len.Goals.{in-Some, in_default}
 
 pub loop-k-init : goal.loop-k-init
 loop-k-init c = (sym (ap length (none_written c.args.self.now)), omega arith)
@@ -22,10 +22,10 @@ loop-k-preserved c =
           let sum = length-append (book_text (below (line_at b) k)) (ended l) in
           let end = ended_length l in
           let n = w.n-is in
-          let size = w.line-len.ensures in
+          let size = w.line_len.ensures in
           (omega arith, omega arith)
-      | in-default w ↦
-          let same = ap (λ ls. length (book_text ls)) (none_more b k w.in-default.ensures) in
+      | in_default w ↦
+          let same = ap (λ ls. length (book_text ls)) (none_more b k w.in_default.ensures) in
           let n = w.n-is in
           (omega arith, omega arith)
     ]

@@ -13,14 +13,14 @@ pub bounds-out-n : goal.bounds-out-n
 bounds-out-n c =
     let end = ended_length c.args.line.now in
     let is = c.in-Some.ensures.0 in
-    let kept = c.write-line.auto.out in
+    let kept = c.write_line.auto.out in
     omega arith
 
-pub overflow-add-result : goal.overflow-add-result
-overflow-add-result c =
+pub overflow_add-result : goal.overflow_add-result
+overflow_add-result c =
     let end = ended_length c.args.line.now in
     let is = c.in-Some.ensures.0 in
-    let good = c.well-formed in
+    let good = c.well_formed in
     omega arith
 
 pub returns : goal.returns
