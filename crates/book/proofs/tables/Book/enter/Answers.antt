@@ -39,19 +39,13 @@ pub invariant_of-self : goal.invariant_of-self
 invariant_of-self c =
     let b = c.args.self.now in
     let i = c.get.result in
-    let r = rule.Order c.in-Order.o in (
-      (length-set b.rules i r ∙ b.numbered.0, ∣ along_set AtNumber 0 b.rules i i r (omega arith) (sym c.get.ensures) (at_numbers b) ∣₁),
-      (b.phases, (b.opened, (b.watched, (b.linked, (b.marked, tt))))),
-    )
+    let r = rule.Order c.in-Order.o in record { numbered = (length-set b.rules i r ∙ b.numbered.0, ∣ along_set AtNumber 0 b.rules i i r (omega arith) (sym c.get.ensures) (at_numbers b) ∣₁); phases = b.phases; opened = b.opened; watched = b.watched; linked = b.linked; marked = b.marked }
 
 pub invariant_of-self-in-Notice : goal.invariant_of-self-in-Notice
 invariant_of-self-in-Notice c =
     let b = c.args.self.now in
     let i = c.get-in-Notice.result in
-    let r = rule.Notice c.in-Notice.n in (
-      (length-set b.rules i r ∙ b.numbered.0, ∣ along_set AtNumber 0 b.rules i i r (omega arith) (sym c.get-in-Notice.ensures) (at_numbers b) ∣₁),
-      (b.phases, (b.opened, (b.watched, (b.linked, (b.marked, tt))))),
-    )
+    let r = rule.Notice c.in-Notice.n in record { numbered = (length-set b.rules i r ∙ b.numbered.0, ∣ along_set AtNumber 0 b.rules i i r (omega arith) (sym c.get-in-Notice.ensures) (at_numbers b) ∣₁); phases = b.phases; opened = b.opened; watched = b.watched; linked = b.linked; marked = b.marked }
 
 pub invariant_of-self-in-Open : goal.invariant_of-self-in-Open
 invariant_of-self-in-Open c =
@@ -61,7 +55,7 @@ invariant_of-self-in-Open c =
     let done = c.place.ensures in
     let within = subst Within c.in-Open.is c.requires.within in
     let tidy = rows_tidy (opens_rows b) x after done.used within (subst (λ l. clashes (lines b) l ≡ false) c.in-Open.is c.requires.new) (subst (λ l. full (lines b) l ≡ false) c.in-Open.is c.requires.room) c.place.auto.rows done.rest in
-    (b.numbered, (∣ all_placed phase_rank (λ F. F < 2 ^ 64) b.opens after b.opening x within (phases b) done.used done.rest ∣₁, (tidy, (b.watched, (b.linked, (b.marked, tt))))))
+    record { numbered = b.numbered; phases = ∣ all_placed phase_rank (λ F. F < 2 ^ 64) b.opens after b.opening x within (phases b) done.used done.rest ∣₁; opened = tidy; watched = b.watched; linked = b.linked; marked = b.marked }
 
 pub invariant_of-self-in-Watch : goal.invariant_of-self-in-Watch
 invariant_of-self-in-Watch c =
@@ -70,7 +64,7 @@ invariant_of-self-in-Watch c =
     let after = c.place-in-Watch.new.rows in
     let done = c.place-in-Watch.ensures in
     let tidy = rows_tidy (watches_rows b) x after done.used tt (subst (λ l. clashes (lines b) l ≡ false) c.in-Watch.is c.requires.new) (subst (λ l. full (lines b) l ≡ false) c.in-Watch.is c.requires.room) c.place-in-Watch.auto.rows done.rest in
-    (b.numbered, (b.phases, (b.opened, (tidy, (b.linked, (b.marked, tt))))))
+    record { numbered = b.numbered; phases = b.phases; opened = b.opened; watched = tidy; linked = b.linked; marked = b.marked }
 
 pub invariant_of-self-in-Link : goal.invariant_of-self-in-Link
 invariant_of-self-in-Link c =
@@ -79,7 +73,7 @@ invariant_of-self-in-Link c =
     let after = c.place-in-Link.new.rows in
     let done = c.place-in-Link.ensures in
     let tidy = rows_tidy (links_rows b) x after done.used tt (subst (λ l. clashes (lines b) l ≡ false) c.in-Link.is c.requires.new) (subst (λ l. full (lines b) l ≡ false) c.in-Link.is c.requires.room) c.place-in-Link.auto.rows done.rest in
-    (b.numbered, (b.phases, (b.opened, (b.watched, (tidy, (b.marked, tt))))))
+    record { numbered = b.numbered; phases = b.phases; opened = b.opened; watched = b.watched; linked = tidy; marked = b.marked }
 
 pub returns-in-Order : goal.returns-in-Order
 returns-in-Order c =

@@ -6,19 +6,7 @@ use Rattle.book.proofs.Seats.{along_same}
 use Rattle.book.proofs.tables.Book.new.Goals as goal
 
 pub invariant_of-result : goal.invariant_of-result
-invariant_of-result c = (
-  (refl, ∣ along_same AtNumber Free (λ _. tt) 64 0 ∣₁),
-  (
-    ∣ omega arith ∣₁,
-    (
-      (refl, omega arith, ∣ tt ∣₁, refl),
-      (
-        (refl, omega arith, ∣ tt ∣₁, ap (replicate 128) c.blank_watch.ensures),
-        ((refl, omega arith, ∣ tt ∣₁, ap (replicate 128) c.blank_link.ensures), ((refl, refl), tt)),
-      ),
-    ),
-  ),
-)
+invariant_of-result c = record { numbered = (refl, ∣ along_same AtNumber Free (λ _. tt) 64 0 ∣₁); phases = ∣ omega arith ∣₁; opened = (refl, omega arith, ∣ tt ∣₁, refl); watched = (refl, omega arith, ∣ tt ∣₁, ap (replicate 128) c.blank_watch.ensures); linked = (refl, omega arith, ∣ tt ∣₁, ap (replicate 128) c.blank_link.ensures); marked = (refl, refl) }
 
 pub returns : goal.returns
 unfolding lines
