@@ -4,7 +4,7 @@ use Rattle.bookreport.proofs.report_text.Goals as goal
 
 pub returns : goal.returns
 returns c =
-    let b = c.in-ok-bytes.ensures in
-    c.in-ok-extend-from-slice.ensures.items
-    ∙ ap (λ l. vec_items c.append-book.new.out ++ l) (c.as-bytes.ensures.value ∙ c.in-ok-last.ensures)
-    ∙ report_is _ _ c.args.text.now _ _ _ _ _ _ _ c.new-book.ensures c.new-out.ensures.items c.in-ok-counts.ensures b.1 c.len.ensures b.0
+    let b = c.in_ok-bytes.ensures in
+    c.in_ok-extend_from_slice.ensures.items
+    ∙ ap (λ l. vec_items c.append_book.new.out ++ l) (c.as_bytes.ensures.value ∙ c.in_ok-last.ensures)
+    ∙ report_is _ _ c.args.text.now _ _ _ _ _ _ _ c.new-book.ensures c.new-out.ensures.items c.in_ok-counts.ensures b.1 c.len.ensures b.0

@@ -6,8 +6,8 @@ use Rattle.bookreport.proofs.Cuts.{split_here, split_last}
 use Rattle.bookreport.proofs.split_line.Goals as goal
 use Rattle.bookreport.proofs.split_line.Goals.{then-loop-i-test+else-text-i-ne10, else-loop-i-test}
 
-pub returns-then-is-empty : goal.returns-then-is-empty
-returns-then-is-empty c = nil_from_length c.args.text.now (search rules)
+pub returns-then-is_empty : goal.returns-then-is_empty
+returns-then-is_empty c = nil_from_length c.args.text.now (search rules)
 
 pub loop-i-preserved : goal.loop-i-preserved
 loop-i-preserved c = (omega arith, All-more (λ b. b ≡ 10 → ⊥) c.args.text.now c.loop-i.i 0 (omega arith) c.loop-i.invariant.1 (λ e. omega arith))

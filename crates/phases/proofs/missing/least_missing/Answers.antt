@@ -9,9 +9,9 @@ pub loop-place-preserved : goal.loop-place-preserved
 loop-place-preserved c =
     let b = c.args.book.now in
     let i = c.loop-place.place in
-    lowered_like (lines b) (λ m. RulesMention b i m ⊎ RuleMentions b i m) (λ m. RulesMention b (i + 1) m) 64 c.lower-by-rule-least.result
+    lowered_like (lines b) (λ m. RulesMention b i m ⊎ RuleMentions b i m) (λ m. RulesMention b (i + 1) m) 64 c.lower_by_rule-least.result
     (λ m. before_more (RuleMentions b) i m) (λ m h none. more_before (RuleMentions b) i m h)
-    (lowered_join (lines b) (RulesMention b i) (RuleMentions b i) 64 c.loop-place.least c.lower-by-rule-least.result c.loop-place.invariant c.lower-by-rule-least.ensures)
+    (lowered_join (lines b) (RulesMention b i) (RuleMentions b i) 64 c.loop-place.least c.lower_by_rule-least.result c.loop-place.invariant c.lower_by_rule-least.ensures)
 
 pub loop-i-init : goal.loop-i-init
 loop-i-init c =
@@ -29,10 +29,10 @@ loop-i-preserved c =
     let b = c.args.book.now in
     let i = c.loop-i.i in
     let P = λ (k : ℕ) (m : ℕ). InForce (get_or b.opens k 0) m in
-    lowered_like (lines b) (λ m. (RulesMention b 64 m ⊎ OpensMention b i m) ⊎ P i m) (λ m. RulesMention b 64 m ⊎ OpensMention b (i + 1) m) 64 c.lower-by-phase-least.result
+    lowered_like (lines b) (λ m. (RulesMention b 64 m ⊎ OpensMention b i m) ⊎ P i m) (λ m. RulesMention b 64 m ⊎ OpensMention b (i + 1) m) 64 c.lower_by_phase-least.result
     (λ m. ⊎_elim (⊎_elim inl (λ h. inr (before_more P i m (inl h)))) (λ h. inr (before_more P i m (inr h))))
     (λ m which none. ⊎_elim (λ h. inl (inl h)) (λ h. ⊎_elim (λ o. inl (inr o)) inr (more_before P i m h)) which)
-    (lowered_join (lines b) (λ m. RulesMention b 64 m ⊎ OpensMention b i m) (P i) 64 c.loop-i.least c.lower-by-phase-least.result c.loop-i.invariant c.lower-by-phase-least.ensures)
+    (lowered_join (lines b) (λ m. RulesMention b 64 m ⊎ OpensMention b i m) (P i) 64 c.loop-i.least c.lower_by_phase-least.result c.loop-i.invariant c.lower_by_phase-least.ensures)
 
 pub returns-then-least-lt-NUMBERS : goal.returns-then-least-lt-NUMBERS
 returns-then-least-lt-NUMBERS c =

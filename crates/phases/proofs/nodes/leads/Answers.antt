@@ -13,9 +13,9 @@ loop-wagon-preserved c =
     let k = get_or ws i 0 in
     let rest = drop (i + 1) ws in
     let here = Marked c.loop-wagon.nodes in
-    let next = Marked c.next-nodes-nodes.result in
+    let next = Marked c.next_nodes-nodes.result in
     let first = drop_more ws i 0 c.loop-wagon-test.true in
-    let just = c.next-nodes-nodes.ensures.just in (
+    let just = c.next_nodes-nodes.ensures.just in (
       λ h. leads_like ls (Links ls here k) next rest (λ t. (just t).1) (leads_on ls here k rest (subst (LeadsFrom ls here) first (c.loop-wagon.invariant.0 h))),
       λ h. c.loop-wagon.invariant.1 (subst (LeadsFrom ls here) (sym first) (on_leads ls here k rest (leads_like ls next (Links ls here k) rest (λ t. (just t).0) h))),
     )
@@ -26,6 +26,6 @@ returns c =
     let ws = c.args.wagons.now in
     let here = Marked c.loop-wagon.nodes in
     let done = drop_all c.loop-wagon.wagon-index ws c.loop-wagon-test.false in (
-      λ e. c.loop-wagon.invariant.1 (subst (LeadsFrom ls here) (sym done) (end_leads ls here (c.any-end.ensures.0 e))),
-      λ h. c.any-end.ensures.1 (leads_end ls here (subst (LeadsFrom ls here) done (c.loop-wagon.invariant.0 h))),
+      λ e. c.loop-wagon.invariant.1 (subst (LeadsFrom ls here) (sym done) (end_leads ls here (c.any_end.ensures.0 e))),
+      λ h. c.any_end.ensures.1 (leads_end ls here (subst (LeadsFrom ls here) done (c.loop-wagon.invariant.0 h))),
     )

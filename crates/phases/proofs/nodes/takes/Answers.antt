@@ -23,8 +23,8 @@ returns-in-len1-up c =
     let others = take (length lane - 1) (drop 1 lane) in
     let some : 1 ≤ length lane = search rules in
     let parts = lane_parts lane some in
-    let first = Marked c.first-nodes.result in
-    let just = c.first-nodes.ensures.just in (
+    let first = Marked c.first_nodes.result in
+    let just = c.first_nodes.ensures.just in (
       λ e. subst (Takes ls mode) (sym parts) (read_takes ls mode top others (leads_like ls first (Enters ls mode top) others (λ t. (just t).0) (c.leads.ensures.0 e))),
       λ h. c.leads.ensures.1 (leads_like ls (Enters ls mode top) first others (λ t. (just t).1) (takes_read ls mode top others (subst (Takes ls mode) parts h))),
     )

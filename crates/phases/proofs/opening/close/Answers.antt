@@ -12,6 +12,6 @@ loop-done-preserved c =
     let p = c.loop-done.phases in
     let q = c.follow.new.phases in
     let lt = c.loop-done-test.true in
-    let went = c.in-ok-follow.ensures in
+    let went = c.in_ok-follow.ensures in
     let le = went.grown.longer in
     (went_then (lines b) c.args.phases.now p q _ (Followed (lines b) q (phase_at p done)) _ c.loop-done.invariant.0 went (λ grown closed now. closed_more b p q done lt grown closed now), omega arith)

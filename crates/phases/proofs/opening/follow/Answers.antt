@@ -9,9 +9,9 @@ loop-place-preserved c =
     let b = c.args.book.now in
     let i = c.loop-place.place in
     let p = c.loop-place.phases in
-    let q = c.follow-rule.new.phases in
+    let q = c.follow_rule.new.phases in
     let F = c.args.phase in
-    went_then (lines b) c.args.phases.now p q _ (RuleFollowed b q F i) _ c.loop-place.invariant c.in-ok-follow-rule.ensures
+    went_then (lines b) c.args.phases.now p q _ (RuleFollowed b q F i) _ c.loop-place.invariant c.in_ok-follow_rule.ensures
     (λ grown each here. below_more (RuleFollowed b q F) i (λ k lt. rule_followed_more b p q F k grown (each k lt)) here)
 
 pub returns : goal.returns

@@ -16,10 +16,10 @@ returns-then-allowed c =
     let long = b.numbered.0 in
     let lt = c.requires.place in
     let is = get_or_default b.rules c.args.place Free c.index-book-place.result (omega arith) ∙ c.in-Notice.is in
-    let yet = subst (Opened (lines b)) (sym c.after-notice.ensures) (notice_opened b c.args.place n F lt is c.requires.opened (c.if-allowed.ensures.0 refl)) in
+    let yet = subst (Opened (lines b)) (sym c.after_notice.ensures) (notice_opened b c.args.place n F lt is c.requires.opened (c.if-allowed.ensures.0 refl)) in
     let p = c.args.phases.now in
     let q = c.add.new.self in
-    let G = c.after-notice.result in
+    let G = c.after_notice.result in
     MatchResult-weaker c.add.result {P = λ _. Added p G q} {Q = λ e. Lacking p G e} c.add.ensures
-    (λ _ added. went_rule b p q F c.args.place n G lt is c.after-notice.ensures c.requires.found yet added)
+    (λ _ added. went_rule b p q F c.args.place n G lt is c.after_notice.ensures c.requires.found yet added)
     (λ e lack. lacking_stuck (lines b) p G e c.requires.found yet lack)

@@ -10,5 +10,5 @@ pub returns : goal.returns
 returns c =
     let ls = lines c.args.book.now in
     let q = c.close.new.phases in
-    let by = opened_by ls c.start.new.phases q c.in-ok-start.ensures.reached c.in-ok-close.ensures in
-    (not_refused ls q c.in-default.ensures by, by)
+    let by = opened_by ls c.start.new.phases q c.in_ok-start.ensures.reached c.in_ok-close.ensures in
+    (not_refused ls q c.in_default.ensures by, by)

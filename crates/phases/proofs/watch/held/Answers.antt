@@ -12,7 +12,7 @@ returns c =
     let F = c.args.phase in
     let lane = c.args.lane.now in
     let fit = c.if-not-fits.ensures.0 refl in
-    let there = index_holds c.args.phases.now F c.phase-index.result c.if-is-none.ensures c.phase-index.ensures in
+    let there = index_holds c.args.phases.now F c.phase_index.result c.if-is_none.ensures c.phase_index.ensures in
     record {
       table = (fit, (there, c.takes.ensures));
       opened = λ by.
