@@ -97,7 +97,7 @@ module _ {G : Type 0} (m : Ghosts G) (ls : List Line) (Fs : List ℕ) (rows : Li
           moves = mv ∷ rest.moves;
           graded = one_more mv rest.moves ∙ ap (m.join (m.priced o.line.toll)) rest.graded ∙ o.graded;
           shows = at_row k (mv ∷ rest.moves) o.is (λ w ks ms behind.
-              on_order {b = b} o.stands o.in-force lt (subst (λ j. (r k).reason ≡ reason.Order j a b) (sym o.numbered) why) o.earlier (rest.shows w ks ms behind));
+              on_order {b = b} o.stands o.in_force lt (subst (λ j. (r k).reason ≡ reason.Order j a b) (sym o.numbered) why) o.earlier (rest.shows w ks ms behind));
         }
 
     notice_good : (k number a : ℕ) → k < n → (r k).reason ≡ reason.Notice number a → RightNotice m ls Fs rows n k number a → RowGood a → RowGood k

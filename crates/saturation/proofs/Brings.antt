@@ -66,7 +66,7 @@ module _ {G : Type 0} {m : Ghosts G} {Fs : List ℕ} where
             let path : Path from (k ∷ []) (row_of Fs x ∷ []) (state_of Fs x.to) = subst (λ j. Path from (k ∷ []) (j ∷ []) (state_of Fs x.to)) (sym is_x) (step stay) in
             record {
               reasoned = record {
-                rule = order_rule o F stands (t.phases.different.each i st.within) st.in-force (subst (λ w. Path from w (row_of Fs x ∷ []) (state_of Fs x.to)) (sym laid) path);
+                rule = order_rule o F stands (t.phases.different.each i st.within) st.in_force (subst (λ w. Path from w (row_of Fs x ∷ []) (state_of Fs x.to)) (sym laid) path);
                 named = refl;
                 concludes = refl;
                 parts = x.grade;
@@ -89,7 +89,7 @@ module _ {G : Type 0} {m : Ghosts G} {Fs : List ℕ} where
             let path : Path from (k ∷ (l ∷ [])) (row_of Fs x ∷ (row_of Fs y ∷ [])) (state_of Fs y.to) = subst (λ j. Path from (k ∷ (l ∷ [])) (j ∷ (row_of Fs y ∷ [])) (state_of Fs y.to)) (sym is_x) (step rest) in
             record {
               reasoned = record {
-                rule = order_rule o F stands (t.phases.different.each i st.within) st.in-force (subst (λ w. Path from w (row_of Fs x ∷ (row_of Fs y ∷ [])) (state_of Fs y.to)) (sym laid) path);
+                rule = order_rule o F stands (t.phases.different.each i st.within) st.in_force (subst (λ w. Path from w (row_of Fs x ∷ (row_of Fs y ∷ [])) (state_of Fs y.to)) (sym laid) path);
                 named = refl;
                 concludes = refl;
                 parts = m.join x.grade y.grade;

@@ -58,7 +58,7 @@ module _ {G : Type 0} {m : Ghosts G} {Fs : List ℕ} {ls : List Line} {rows : Li
   waits_at k lt le = ⊎_elim (λ low. absurd (omega arith)) (λ e. e) (t.ranked k lt)
 
   pub low_rank : s ≤ unranked
-  low_rank = let a = t.in-range in let b = t.room in let c = t.few in omega arith
+  low_rank = let a = t.in_range in let b = t.room in let c = t.few in omega arith
 
   pub grown_none : {New : TableRow G → Type 0} → Grown m Fs s New rows n rows n
   grown_none = record {
@@ -166,7 +166,7 @@ module _ {G : Type 0} {m : Ghosts G} {Fs : List ℕ} {ls : List Line} {rows : Li
         lawful = t.lawful;
         phases = t.phases;
         few = subst (λ x. x ≤ unranked) (sym (length-set rows i new)) t.few;
-        in_range = t.in-range;
+        in_range = t.in_range;
         room = subst (λ x. n ≤ x) (sym (length-set rows i new)) t.room;
         entries = subst (λ x. n ≤ x) (sym long) t.entries;
         apart = λ k l hk hl e. t.apart k l hk hl (sym (keys_stay k) ∙ e ∙ keys_stay l);
@@ -250,7 +250,7 @@ module _ {G : Type 0} {m : Ghosts G} {Fs : List ℕ} {ls : List Line} {rows : Li
 
     module _ {after : List (Waiting G)} (put : Put (sooner m.noworse) queue after (n - s) (record { grade = new.grade; row = n })) (wide : n < length queue) (long : length after ≡ length queue) where
       one_more : n - s + 1 ≡ n + 1 - s
-      one_more = let le = t.in-range in omega arith
+      one_more = let le = t.in_range in omega arith
 
       holds_push : (e : Waiting G) → Holds after (n - s + 1) e ↔ ((e.row < n + 1) × ((row_at m (set rows n new) e.row).rank ≡ unranked) × (e.grade ≡ (row_at m (set rows n new) e.row).grade))
       holds_push e = (λ held. ⊎_elim was is_new ((put_holds put e).0 held), λ w. (put_holds put e).1 (back w (dec_lt e.row n)))
@@ -280,7 +280,7 @@ module _ {G : Type 0} {m : Ghosts G} {Fs : List ℕ} {ls : List Line} {rows : Li
         lawful = t.lawful;
         phases = t.phases;
         few = subst (λ x. x ≤ unranked) (sym (length-set rows n new)) t.few;
-        in_range = let le = t.in-range in omega arith;
+        in_range = let le = t.in_range in omega arith;
         room = let e = length-set rows n new in omega arith;
         entries = omega arith;
         apart = apart_push;

@@ -83,7 +83,7 @@ module _ {G : Type 0} {m : Ghosts G} {Fs : List ℕ} (b : Book) {old mid : List 
   itself g = no_worse_itself (laws_of lawful) g
 
   low_s : s < unranked
-  low_s = let a' = st.table.in-range in let b' = st.table.room in let c' = st.table.few in omega arith
+  low_s = let a' = st.table.in_range in let b' = st.table.room in let c' = st.table.few in omega arith
 
   x_here : row_at m mid a ≡ x
   x_here = st.here ∙ sym is_x

@@ -13,4 +13,4 @@ returns c =
     let room : length c.as_mut_slice.result.now ≡ length t = search rules in
     let whole : length w ≡ c.in_ok-text.text.len = search rules in
     let same : w ≡ t = k.1 ∙ ap (λ l. t ++ l) (drop_all c.in-Ok.n c.as_mut_slice.result.now (omega (arith, k.0, room))) ∙ append-nil t in
-    (k.0, c.in_ok-extend_from_slice.ensures.items ∙ ap (λ l. vec_items c.args.out.now ++ l) (c.as_slice.ensures.value ∙ take_at w _ c.in_ok-text.text.len whole ∙ same))
+    (k.0, c.in_ok-extend_from_slice-in-Ok.ensures.items ∙ ap (λ l. vec_items c.args.out.now ++ l) (c.as_slice.ensures.value ∙ take_at w _ c.in_ok-text.text.len whole ∙ same))

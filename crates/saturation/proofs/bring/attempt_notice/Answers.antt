@@ -19,7 +19,7 @@ offer-requires g c =
     let i = c.args.place in
     let ntc = c.noticed.ensures.0 c.if-not-noticed.false in
     let new = brings_notice t d c.requires.stands i c.args.last.now.place x ntc c.requires.last.here in
-    let is = c.notice-row-row.ensures in
+    let is = c.notice_row-row.ensures in
     record {
       table = t;
       row = (ap (λ r. r.rank) is, subst (Placed m Fs) (sym is) new.placed);
@@ -36,5 +36,5 @@ returns g c =
     let i = c.args.place in
     let ntc = c.noticed.ensures.0 c.if-not-noticed.false in
     let new = brings_notice t d c.requires.stands i c.args.last.now.place x ntc c.requires.last.here in
-    offered (Brings m Fs (lines c.args.book.now) c.args.rows.now c.args.progress.settled c.args.progress.found x) t c.offer.new.rows c.offer.new.waiting c.notice-row-row.result (row_by_notice m d i x c.args.last.now.place) c.notice-row-row.ensures new
+    offered (Brings m Fs (lines c.args.book.now) c.args.rows.now c.args.progress.settled c.args.progress.found x) t c.offer.new.rows c.offer.new.waiting c.notice_row-row.result (row_by_notice m d i x c.args.last.now.place) c.notice_row-row.ensures new
     (TriedNotice m Fs d x i) c.offer.result (λ l covers h. covers) c.offer.ensures

@@ -7,8 +7,8 @@ use Rattle.saturation.proofs.Growth.{went_none, went_on, full_on, ends_on, cover
 use Rattle.saturation.proofs.Brings.{given_on, last_on}
 use Rattle.saturation.proofs.bring.bring_pair.Goals as goal
 
-pub offset-bounds-rows-place : goal.offset-bounds-rows-place
-offset-bounds-rows-place g c = let r = c.requires.table.room in let w = c.requires.within in let lt : c.args.place < length c.args.rows.now = omega arith in search rules
+pub offset_bounds-rows-place : goal.offset_bounds-rows-place
+offset_bounds-rows-place g c = let r = c.requires.table.room in let w = c.requires.within in let lt : c.args.place < length c.args.rows.now = omega arith in search rules
 
 pub returns-then-other-progress : goal.returns-then-other-progress
 returns-then-other-progress g c =
@@ -20,12 +20,12 @@ returns-then-other-progress g c =
     let e : c.index-rows-place.result ≡ row_at m rows c.args.place = get_or_read rows c.args.place c.index-rows-place.result (omega arith) c.index-rows-place.is (blank_row m.best) in
     went_none t (λ y h. let a = ap (λ r. r.rank) (e ∙ h.here) in let b = h.ranked in absurd (omega arith))
 
-pub returns-in-err-n : goal.returns-in-err-n
-returns-in-err-n g c =
-    at_none _ _ c.from-residual.result c.from-residual.ensures (full_on (went_none c.requires.table {C = Unit {0}} tt) (given_on (λ p r h. h) (λ r f. f.0)) c.in-err-n.ensures)
+pub returns-in_err-n : goal.returns-in_err-n
+returns-in_err-n g c =
+    at_none _ _ c.from_residual.result c.from_residual.ensures (full_on (went_none c.requires.table {C = Unit {0}} tt) (given_on (λ p r h. h) (λ r f. f.0)) c.in_err-n.ensures)
 
-pub attempt-two-requires : goal.attempt-two-requires
-attempt-two-requires g c =
+pub attempt_two-requires : goal.attempt_two-requires
+attempt_two-requires g c =
     let m = g.G.Grade in
     let t = c.requires.table in
     let r = t.room in
@@ -34,14 +34,14 @@ attempt-two-requires g c =
     let e : c.index-rows-place.result ≡ row_at m rows c.args.place = get_or_read rows c.args.place c.index-rows-place.result (omega arith) c.index-rows-place.is (blank_row m.best) in
     record { table = t; settled = (c.requires.last.here, record { within = w; here = sym e; ranked = omega arith }); last = inl c.requires.last; stands = c.requires.stands }
 
-pub attempt-two-requires-2 : goal.attempt-two-requires-2
-attempt-two-requires-2 g c =
+pub attempt_two-requires-2 : goal.attempt_two-requires-2
+attempt_two-requires-2 g c =
     let m = g.G.Grade in
     let t = c.requires.table in
     let r = t.room in
     let w = c.requires.within in
     let rows = c.args.rows.now in
-    let went = c.in-ok-n.ensures in
+    let went = c.in_ok-n.ensures in
     let e : c.index-rows-place.result ≡ row_at m rows c.args.place = get_or_read rows c.args.place c.index-rows-place.result (omega arith) c.index-rows-place.is (blank_row m.best) in
     record {
       table = went.table;
@@ -62,15 +62,15 @@ returns g c =
     let w = c.requires.within in
     let rows = c.args.rows.now in
     let s = c.args.progress.settled in
-    let new = c.attempt-two-2.new.rows in
+    let new = c.attempt_two-2.new.rows in
     let k = c.args.order.now.first in
     let l = c.args.order.now.second in
     let e : y ≡ row_at m rows c.args.place = get_or_read rows c.args.place y (omega arith) c.index-rows-place.is (blank_row m.best) in
-    let went = c.in-ok-n.ensures in
+    let went = c.in_ok-n.ensures in
     let went_x = went_on (went_none t {C = Unit {0}} tt) (given_on (λ p r h. h) (λ r f. f.0)) (λ grown a b. b) went in
-    ends_on went_x (given_on went.grown.back (λ r f. f.1)) new c.attempt-two-2.new.waiting (TriedTwo m Fs o k l y x) (TriedPairAt m Fs o k l x rows c.args.progress.found s c.args.place) c.attempt-two-2.result
+    ends_on went_x (given_on went.grown.back (λ r f. f.1)) new c.attempt_two-2.new.waiting (TriedTwo m Fs o k l y x) (TriedPairAt m Fs o k l x rows c.args.progress.found s c.args.place) c.attempt_two-2.result
     (λ n grown a b z h. subst (λ z. TriedPair m Fs o k l x z new n) (e ∙ h.here) ((λ i st go. covers_later _ _ t.lawful grown (a i st go)), b))
-    c.attempt-two-2.ensures
+    c.attempt_two-2.ensures
 
 -- neither goes on from the other
 pub returns-then-not-goes-2 : goal.returns-then-not-goes-2

@@ -26,8 +26,8 @@ returns-in-Free g c =
     let e = get_or_default b.rules number rule.Free c.index-book-number.result (omega arith) in
     went_none c.requires.table (rule_none m Fs x b number At rows n (e ∙ c.in-Free.is))
 
-pub bring-order-requires : goal.bring-order-requires
-bring-order-requires g c =
+pub bring_order-requires : goal.bring_order-requires
+bring_order-requires g c =
     let m = g.G.Grade in
     let Fs = c.args.phases.now in
     let b = c.args.book.now in
@@ -59,12 +59,12 @@ returns-in-Order g c =
     let small = c.requires.number in
     let e = get_or_default b.rules number rule.Free c.index-book-number.result (omega arith) in
     let o = c.in-Order.order in
-    let new = c.bring-order.new.rows in
-    ends_so m Fs ls s (Brings m Fs ls rows s n x) rows n c.args.waiting.now new c.bring-order.new.waiting (TriedOrder m Fs o o.wagons At x) (TriedRule m Fs b number At x) c.bring-order.result
-    (λ l tried. rule_order m Fs x b number At new l o (e ∙ c.in-Order.is) tried) c.bring-order.ensures
+    let new = c.bring_order.new.rows in
+    ends_so m Fs ls s (Brings m Fs ls rows s n x) rows n c.args.waiting.now new c.bring_order.new.waiting (TriedOrder m Fs o o.wagons At x) (TriedRule m Fs b number At x) c.bring_order.result
+    (λ l tried. rule_order m Fs x b number At new l o (e ∙ c.in-Order.is) tried) c.bring_order.ensures
 
-pub bring-notice-requires : goal.bring-notice-requires
-bring-notice-requires g c =
+pub bring_notice-requires : goal.bring_notice-requires
+bring_notice-requires g c =
     let m = g.G.Grade in
     let Fs = c.args.phases.now in
     let b = c.args.book.now in
@@ -96,6 +96,6 @@ returns-in-Notice g c =
     let small = c.requires.number in
     let e = get_or_default b.rules number rule.Free c.index-book-number.result (omega arith) in
     let d = c.in-Notice.notice in
-    let new = c.bring-notice.new.rows in
-    ends_so m Fs ls s (Brings m Fs ls rows s n x) rows n c.args.waiting.now new c.bring-notice.new.waiting (λ later l. (i : ℕ) → i < length Fs → TriedNotice m Fs d x i later l) (TriedRule m Fs b number At x) c.bring-notice.result
-    (λ l tried. rule_notice m Fs x b number At new l d (e ∙ c.in-Notice.is) tried) c.bring-notice.ensures
+    let new = c.bring_notice.new.rows in
+    ends_so m Fs ls s (Brings m Fs ls rows s n x) rows n c.args.waiting.now new c.bring_notice.new.waiting (λ later l. (i : ℕ) → i < length Fs → TriedNotice m Fs d x i later l) (TriedRule m Fs b number At x) c.bring_notice.result
+    (λ l tried. rule_notice m Fs x b number At new l d (e ∙ c.in-Notice.is) tried) c.bring_notice.ensures

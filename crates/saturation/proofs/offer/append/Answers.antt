@@ -14,9 +14,9 @@ returns g c =
     let m = g.G.Grade in
     let same : g.G.TotalOrder.before ≡ m.noworse = λ j a b. c.agrees.ensures a b j in
     let new : Waiting g.row.G.Denot = record { grade = c.args.row.grade; row = c.args.progress.found } in
-    let put = subst (λ f. Put (sooner f) c.args.waiting.now c.put.new.queue (c.args.progress.found - c.args.progress.settled) new) same c.in-ok-put.ensures.1 in
+    let put = subst (λ f. Put (sooner f) c.args.waiting.now c.put.new.queue (c.args.progress.found - c.args.progress.settled) new) same c.in_ok-put.ensures.1 in
     went_push c.requires.table c.args.row (omega arith) c.requires.row.0 c.requires.row.1 c.requires.nowhere put (omega arith) c.put.auto.queue
 
 -- what is known of the row table itself: how many bytes it takes
-pub offset-bounds-rows-progress : goal.offset-bounds-rows-progress
-offset-bounds-rows-progress g c = scaled_Fits c.args.progress.found (length c.args.rows.now) _ (omega arith) c.well-formed.1.1.0.1
+pub offset_bounds-rows-progress : goal.offset_bounds-rows-progress
+offset_bounds-rows-progress g c = scaled_Fits c.args.progress.found (length c.args.rows.now) _ (omega arith) c.well_formed.1.1.0.1

@@ -10,11 +10,11 @@ use Rattle.saturation.proofs.Growth.{turned, sooner_better, old_held, went_bette
 use Rattle.saturation.proofs.offer.improve.Goals as goal
 
 -- what is known of the row table itself: how many bytes it takes
-pub offset-bounds-rows-i : goal.offset-bounds-rows-i
-offset-bounds-rows-i g c = let r = c.requires.table.room in let i = c.requires.same.0 in scaled_Fits c.args.i (length c.args.rows.now) _ (omega arith) c.well-formed.1.1.0.1
+pub offset_bounds-rows-i : goal.offset_bounds-rows-i
+offset_bounds-rows-i g c = let r = c.requires.table.room in let i = c.requires.same.0 in scaled_Fits c.args.i (length c.args.rows.now) _ (omega arith) c.well_formed.1.1.0.1
 
-pub offset-bounds-rows-i-then-not-keeps : goal.offset-bounds-rows-i-then-not-keeps
-offset-bounds-rows-i-then-not-keeps g c = let r = c.requires.table.room in let i = c.requires.same.0 in scaled_Fits c.args.i (length c.args.rows.now) _ (omega arith) c.well-formed.1.1.0.1
+pub offset_bounds-rows-i-then-not-keeps : goal.offset_bounds-rows-i-then-not-keeps
+offset_bounds-rows-i-then-not-keeps g c = let r = c.requires.table.room in let i = c.requires.same.0 in scaled_Fits c.args.i (length c.args.rows.now) _ (omega arith) c.well_formed.1.1.0.1
 
 pub requeue-requires : goal.requeue-requires
 requeue-requires g c =

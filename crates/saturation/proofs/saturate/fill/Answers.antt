@@ -10,26 +10,26 @@ use Rattle.saturation.proofs.Finishing.{table_none, finished}
 use Rattle.saturation.proofs.saturate.fill.Goals as goal
 
 pub begin-requires : goal.begin-requires
-begin-requires g c = record { table = table_none c.args.rows.now c.args.waiting.now c.requires.lawful c.requires.opened (omega (arith, c.well-formed)) c.requires.blank; few = c.requires.few }
+begin-requires g c = record { table = table_none c.args.rows.now c.args.waiting.now c.requires.lawful c.requires.opened (omega (arith, c.well_formed)) c.requires.blank; few = c.requires.few }
 
-pub returns-in-err-found : goal.returns-in-err-found
-returns-in-err-found g c = at_none _ _ c.from-residual.result c.from-residual.ensures c.in-err-found.ensures
+pub returns-in_err-found : goal.returns-in_err-found
+returns-in_err-found g c = at_none _ _ c.from_residual.result c.from_residual.ensures c.in_err-found.ensures
 
 pub proceed-requires : goal.proceed-requires
-proceed-requires g c = record { worked = c.in-ok-found.ensures.0; few = c.requires.few }
+proceed-requires g c = record { worked = c.in_ok-found.ensures.0; few = c.requires.few }
 
-pub returns-in-err-count : goal.returns-in-err-count
-returns-in-err-count g c =
-    let (worked, long, wide) = c.in-ok-found.ensures in
-    at_none _ _ c.from-residual-in-err-count.result c.from-residual-in-err-count.ensures
-    (subst (Outnumber (Derivation (row_rules (lines c.args.book.now)))) (ap₂ min long wide) c.in-err-count.ensures)
+pub returns-in_err-count : goal.returns-in_err-count
+returns-in_err-count g c =
+    let (worked, long, wide) = c.in_ok-found.ensures in
+    at_none _ _ c.from_residual-in_err-count.result c.from_residual-in_err-count.ensures
+    (subst (Outnumber (Derivation (row_rules (lines c.args.book.now)))) (ap₂ min long wide) c.in_err-count.ensures)
 
 pub returns : goal.returns
 returns g c =
     let m = g.G.Grade in
-    let (worked, long, wide) = c.in-ok-found.ensures in
-    let (done, long_2, wide_2, count) = c.in-ok-count.ensures in
+    let (worked, long, wide) = c.in_ok-found.ensures in
+    let (done, long_2, wide_2, count) = c.in_ok-count.ensures in
     let r = done.table.room in
-    let i = done.table.in-range in
-    let all : c.in-ok-count.field-0-0 ≡ c.in-ok-count.count = ⊎_elim (λ h. omega arith) (λ h. h.0) count in
-    subst (λ places. Complete m c.args.phases.now (lines c.args.book.now) places c.proceed.new.rows c.in-ok-count.count) (ap₂ min (long_2 ∙ long) (wide_2 ∙ wide)) (finished done all)
+    let i = done.table.in_range in
+    let all : c.in_ok-count.field-0-0 ≡ c.in_ok-count.count = ⊎_elim (λ h. omega arith) (λ h. h.0) count in
+    subst (λ places. Complete m c.args.phases.now (lines c.args.book.now) places c.proceed.new.rows c.in_ok-count.count) (ap₂ min (long_2 ∙ long) (wide_2 ∙ wide)) (finished done all)

@@ -21,7 +21,7 @@ offer-requires g c =
     let few = b.linked.1 in
     let v = get_or b.links k blank_link in
     let read = get_or_default b.links k c.index-book-k.result blank_link (omega arith) in
-    let is = subst (λ y. c.link-row-row.result ≡ row_by_line m (Node y.node.value) y.wagon.value (Node y.to.value)) read c.link-row-row.ensures in
+    let is = subst (λ y. c.link_row-row.result ≡ row_by_line m (Node y.node.value) y.wagon.value (Node y.to.value)) read c.link_row-row.ensures in
     let new = begins_link t.lawful Fs b k v low refl in
     record {
       table = t;
@@ -41,6 +41,6 @@ returns g c =
     let few = b.linked.1 in
     let v = get_or b.links k blank_link in
     let read = get_or_default b.links k c.index-book-k.result blank_link (omega arith) in
-    let is = subst (λ y. c.link-row-row.result ≡ row_by_line m (Node y.node.value) y.wagon.value (Node y.to.value)) read c.link-row-row.ensures in
+    let is = subst (λ y. c.link_row-row.result ≡ row_by_line m (Node y.node.value) y.wagon.value (Node y.to.value)) read c.link_row-row.ensures in
     let new = begins_link t.lawful Fs b k v low refl in
-    offered (Begins m Fs (lines b)) t c.offer.new.rows c.offer.new.waiting c.link-row-row.result (row_by_line m (Node v.node.value) v.wagon.value (Node v.to.value)) is new (LinkBegun m Fs b k) c.offer.result (λ l covers. covers) c.offer.ensures
+    offered (Begins m Fs (lines b)) t c.offer.new.rows c.offer.new.waiting c.link_row-row.result (row_by_line m (Node v.node.value) v.wagon.value (Node v.to.value)) is new (LinkBegun m Fs b k) c.offer.result (λ l covers. covers) c.offer.ensures

@@ -3,21 +3,21 @@ use Rattle.saturation.specs.Start.{OrderBegun}
 use Rattle.saturation.proofs.Growth.{went_none, went_so, went_on, full_on, covers_later, at_none, below_next}
 use Rattle.saturation.proofs.start.begin_order_line.Goals as goal
 
-pub begin-order-requires : goal.begin-order-requires
-begin-order-requires g c = record { table = c.loop-place.invariant.table; few = c.requires.few; order = c.requires.order; place = omega arith }
+pub begin_order-requires : goal.begin_order-requires
+begin_order-requires g c = record { table = c.loop-place.invariant.table; few = c.requires.few; order = c.requires.order; place = omega arith }
 
-pub returns-in-err-n : goal.returns-in-err-n
-returns-in-err-n g c = at_none _ _ c.from-residual.result c.from-residual.ensures (full_on c.loop-place.invariant (λ r h. h) c.in-err-n.ensures)
+pub returns-in_err-n : goal.returns-in_err-n
+returns-in_err-n g c = at_none _ _ c.from_residual.result c.from_residual.ensures (full_on c.loop-place.invariant (λ r h. h) c.in_err-n.ensures)
 
 pub loop-place-preserved : goal.loop-place-preserved
 loop-place-preserved g c =
     let m = g.G.Grade in
     let w = c.loop-place.invariant in
-    let new = c.begin-order.new.rows in
-    let n = c.in-ok-n.n in
+    let new = c.begin_order.new.rows in
+    let n = c.in_ok-n.n in
     went_on w (λ r h. h)
     (λ grown a b. below_next (λ j. OrderBegun m c.args.phases.now c.args.order.now j (new) (n)) c.loop-place.place (λ j lt lone in_force. covers_later _ _ w.table.lawful grown (a j lt lone in_force)) b)
-    c.in-ok-n.ensures
+    c.in_ok-n.ensures
 
 pub loop-place-init : goal.loop-place-init
 loop-place-init g c = went_none c.requires.table (λ b h. absurd (omega arith))

@@ -24,8 +24,8 @@ returns-in-Free g c =
     let e = get_or_default b.rules number rule.Free c.index-book-number.result (omega arith) in
     went_none c.requires.table (rule_other m Fs b number rows n (λ o f. ⊎_elim (λ h. let z : ◌≡◌ {A = ℕ} 0 1 = cc in omega arith) (λ h. let q = h.1 in let z : ◌≡◌ {A = ℕ} 0 1 = cc in omega arith) c.in-Free.is))
 
-pub begin-order-line-requires : goal.begin-order-line-requires
-begin-order-line-requires g c =
+pub begin_order_line-requires : goal.begin_order_line-requires
+begin_order_line-requires g c =
     let m = g.G.Grade in
     let Fs = c.args.phases.now in
     let b = c.args.book.now in
@@ -49,9 +49,9 @@ returns-in-Zero g c =
     let small = c.requires.number in
     let e = get_or_default b.rules number rule.Free c.index-book-number.result (omega arith) in
     let o = c.in-Order.order in
-    let new = c.begin-order-line.new.rows in
-    ends_so m Fs (lines b) 0 (Begins m Fs (lines b)) rows n c.args.waiting.now new c.begin-order-line.new.waiting (λ later l. (i : ℕ) → i < length Fs → OrderBegun m Fs o i later l) (RuleBegun m Fs b number) c.begin-order-line.result
-    (λ l begun. rule_lone m Fs b number new l o (e ∙ c.in-Order.is) begun) c.begin-order-line.ensures
+    let new = c.begin_order_line.new.rows in
+    ends_so m Fs (lines b) 0 (Begins m Fs (lines b)) rows n c.args.waiting.now new c.begin_order_line.new.waiting (λ later l. (i : ℕ) → i < length Fs → OrderBegun m Fs o i later l) (RuleBegun m Fs b number) c.begin_order_line.result
+    (λ l begun. rule_lone m Fs b number new l o (e ∙ c.in-Order.is) begun) c.begin_order_line.ensures
 
 pub returns-in-One : goal.returns-in-One
 returns-in-One g c =

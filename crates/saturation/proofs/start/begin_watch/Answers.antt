@@ -22,7 +22,7 @@ offer-requires g c =
     let few = b.watched.1 in
     let v = get_or b.watches k blank_watch in
     let read = get_or_default b.watches k c.index-book-k.result blank_watch (omega arith) in
-    let is = subst (λ y. c.watch-row-row.result ≡ row_by_line m (Head y.mode.value i) y.wagon.value (Node y.node.value)) read c.watch-row-row.ensures in
+    let is = subst (λ y. c.watch_row-row.result ≡ row_by_line m (Head y.mode.value i) y.wagon.value (Node y.node.value)) read c.watch_row-row.ensures in
     let new = begins_watch t.lawful Fs b k v low refl i c.requires.k.1 (t.phases.different.each i c.requires.k.1) in
     record {
       table = t;
@@ -43,6 +43,6 @@ returns g c =
     let few = b.watched.1 in
     let v = get_or b.watches k blank_watch in
     let read = get_or_default b.watches k c.index-book-k.result blank_watch (omega arith) in
-    let is = subst (λ y. c.watch-row-row.result ≡ row_by_line m (Head y.mode.value i) y.wagon.value (Node y.node.value)) read c.watch-row-row.ensures in
+    let is = subst (λ y. c.watch_row-row.result ≡ row_by_line m (Head y.mode.value i) y.wagon.value (Node y.node.value)) read c.watch_row-row.ensures in
     let new = begins_watch t.lawful Fs b k v low refl i c.requires.k.1 (t.phases.different.each i c.requires.k.1) in
-    offered (Begins m Fs (lines b)) t c.offer.new.rows c.offer.new.waiting c.watch-row-row.result (row_by_line m (Head v.mode.value i) v.wagon.value (Node v.node.value)) is new (WatchBegun m Fs b k i) c.offer.result (λ l covers. covers) c.offer.ensures
+    offered (Begins m Fs (lines b)) t c.offer.new.rows c.offer.new.waiting c.watch_row-row.result (row_by_line m (Head v.mode.value i) v.wagon.value (Node v.node.value)) is new (WatchBegun m Fs b k i) c.offer.result (λ l covers. covers) c.offer.ensures

@@ -17,7 +17,7 @@ loop-left-preserved g c =
       (
         passed ++ (k ∷ []),
         (
-          All-push (LineRow g.G.Grade c.args.rows.now c.args.count) passed k lines (c.is-line.ensures.0 c.if-is-line.true),
+          All-push (LineRow g.G.Grade c.args.rows.now c.args.count) passed k lines (c.is_line.ensures.0 c.if-is_line.true),
           is ∙ ap (λ ks. passed ++ ks) (stack_top list left (omega arith) (omega arith)) ∙ sym (append_assoc passed (k ∷ []) (stack list (left - 1))),
         ),
       ),

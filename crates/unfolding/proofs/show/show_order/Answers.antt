@@ -7,27 +7,27 @@ use Rattle.unfolding.specs.Shows.{Shows, shows_order}
 use Rattle.unfolding.proofs.Stacks.{stack_long}
 use Rattle.unfolding.proofs.Showing.{clash, only_order}
 use Rattle.unfolding.proofs.show.show_order.Goals as goal
-use Rattle.unfolding.proofs.show.show_order.Goals.{then-from-order-via-then-from-order, then-from-order-via-else-from-order+then-not-in-force, then-from-order-via-else-from-order+else-not-in-force+then-not-are-earlier}
+use Rattle.unfolding.proofs.show.show_order.Goals.{then-from-order-via-then-from-order, then-from-order-via-else-from-order+then-not-in_force, then-from-order-via-else-from-order+else-not-in_force+then-not-are_earlier}
 
 pub returns-then-from-order : goal.returns-then-from-order
 returns-then-from-order g c = (
   only_order (numbers_stand_once c.args.book.now) c.args.order c.args.a c.args.b c.requires.stands c.requires.why (λ by.
       elim c.then-from-order.branch [
-        | then-from-order-via-then-from-order w ↦ w.if-from-order.true (c.from.ensures ∙ sym by.in-mode)
-        | then-from-order-via-else-from-order+then-not-in-force w ↦
-            clash (sym w.if-not-in-force.true ∙ w.in-force.ensures ∙ by.in-force)
-        | then-from-order-via-else-from-order+else-not-in-force+then-not-are-earlier w ↦
-            clash (sym w.if-not-are-earlier.true ∙ w.are-earlier.ensures.1 by.earlier)
+        | then-from-order-via-then-from-order w ↦ w.if-from-order.true (c.from.ensures ∙ sym by.in_mode)
+        | then-from-order-via-else-from-order+then-not-in_force w ↦
+            clash (sym w.if-not-in_force.true ∙ w.in_force.ensures ∙ by.in_force)
+        | then-from-order-via-else-from-order+else-not-in_force+then-not-are_earlier w ↦
+            clash (sym w.if-not-are_earlier.true ∙ w.are_earlier.ensures.1 by.earlier)
       ]),
   refl,
 )
 
-pub returns-in-default : goal.returns-in-default
-returns-in-default g c =
+pub returns-in_default : goal.returns-in_default
+returns-in_default g c =
     let list = c.args.list.now in
     let below = stack list (c.args.stage.length - 1) in
     let new = parts c.args.order.wagons c.args.a c.args.b in
-    let (same, short) = c.in-default.ensures in (
+    let (same, short) = c.in_default.ensures in (
       only_order (numbers_stand_once c.args.book.now) c.args.order c.args.a c.args.b c.requires.stands c.requires.why (λ by.
           let room = by.room in
           let long = stack_long list (c.args.stage.length - 1) (omega arith) in
@@ -50,8 +50,8 @@ returns g c =
             why = c.requires.why;
             stands = c.requires.stands;
             in_mode = sym c.if-from-order.false ∙ c.from.ensures;
-            in_force = sym c.in-force.ensures ∙ c.if-not-in-force.false;
-            earlier = c.are-earlier.ensures.0 c.if-not-are-earlier.false;
-            room = let count = stack_long c.replace-top.new.list c.in-Some.length (omega arith) in subst (λ ks. length ks ≤ length list) is (omega arith);
+            in_force = sym c.in_force.ensures ∙ c.if-not-in_force.false;
+            earlier = c.are_earlier.ensures.0 c.if-not-are_earlier.false;
+            room = let count = stack_long c.replace_top.new.list c.in-Some.length (omega arith) in subst (λ ks. length ks ≤ length list) is (omega arith);
           })),
     )

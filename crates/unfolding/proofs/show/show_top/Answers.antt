@@ -16,13 +16,13 @@ returns-in-Line g c =
     let lt : k < length rows = let below = c.if-place-count.false in let enough = c.requires.rows in omega arith in
     (none_line (ap (λ r. r.reason) (read_row g.G.Grade rows k c.index-rows-place.result lt c.index-rows-place.is) ∙ c.in-Line.is), refl)
 
-pub show-order-requires : goal.show-order-requires
-show-order-requires g c =
+pub show_order-requires : goal.show_order-requires
+show_order-requires g c =
     let rows = c.args.rows.now in
     let k = get_or c.args.list.now (c.args.stage.length - 1) 0 in
     let lt : k < length rows = let below = c.if-place-count.false in let enough = c.requires.rows in omega arith in
     let why : (row_at g.G.Grade rows k).reason ≡ reason.Order c.in-Order.number c.in-Order.a c.in-Order.b = ap (λ r. r.reason) (read_row g.G.Grade rows k c.index-rows-place.result lt c.index-rows-place.is) ∙ c.in-Order.is in
-    let (stands, is) = found_order c.args.book.now c.in-Order.number c.in-Order-rule-under.order (sym c.rule-under.ensures ∙ c.in-Order-rule-under.is) in
+    let (stands, is) = found_order c.args.book.now c.in-Order.number c.in-Order-rule_under.order (sym c.rule_under.ensures ∙ c.in-Order-rule_under.is) in
     record {
       rows = c.requires.rows;
       listed = c.requires.listed;
@@ -31,24 +31,24 @@ show-order-requires g c =
       stands = stands;
     }
 
-pub returns-in-default : goal.returns-in-default
-returns-in-default g c =
+pub returns-in_default : goal.returns-in_default
+returns-in_default g c =
     let rows = c.args.rows.now in
     let k = get_or c.args.list.now (c.args.stage.length - 1) 0 in
     let lt : k < length rows = let below = c.if-place-count.false in let enough = c.requires.rows in omega arith in
     let why : (row_at g.G.Grade rows k).reason ≡ reason.Order c.in-Order.number c.in-Order.a c.in-Order.b = ap (λ r. r.reason) (read_row g.G.Grade rows k c.index-rows-place.result lt c.index-rows-place.is) ∙ c.in-Order.is in (
       none_order c.in-Order.number c.in-Order.a c.in-Order.b why (λ o stands is.
-          c.in-default.not-Order o (c.rule-under.ensures ∙ subst (λ j. get_or c.args.book.now.rules j rule.Free ≡ rule.Order o) is ((order_stands c.args.book.now o).0 stands))),
+          c.in_default.not-Order o (c.rule_under.ensures ∙ subst (λ j. get_or c.args.book.now.rules j rule.Free ≡ rule.Order o) is ((order_stands c.args.book.now o).0 stands))),
       refl,
     )
 
-pub show-notice-requires : goal.show-notice-requires
-show-notice-requires g c =
+pub show_notice-requires : goal.show_notice-requires
+show_notice-requires g c =
     let rows = c.args.rows.now in
     let k = get_or c.args.list.now (c.args.stage.length - 1) 0 in
     let lt : k < length rows = let below = c.if-place-count.false in let enough = c.requires.rows in omega arith in
     let why : (row_at g.G.Grade rows k).reason ≡ reason.Notice c.in-Notice.number c.in-Notice.a = ap (λ r. r.reason) (read_row g.G.Grade rows k c.index-rows-place.result lt c.index-rows-place.is) ∙ c.in-Notice.is in
-    let (stands, is) = found_notice c.args.book.now c.in-Notice.number c.in-Notice-rule-under.notice (sym c.rule-under-in-Notice.ensures ∙ c.in-Notice-rule-under.is) in
+    let (stands, is) = found_notice c.args.book.now c.in-Notice.number c.in-Notice-rule_under.notice (sym c.rule_under-in-Notice.ensures ∙ c.in-Notice-rule_under.is) in
     record {
       rows = c.requires.rows;
       listed = c.requires.listed;
@@ -57,13 +57,13 @@ show-notice-requires g c =
       stands = stands;
     }
 
-pub returns-in-default-rule-under : goal.returns-in-default-rule-under
-returns-in-default-rule-under g c =
+pub returns-in_default-rule_under : goal.returns-in_default-rule_under
+returns-in_default-rule_under g c =
     let rows = c.args.rows.now in
     let k = get_or c.args.list.now (c.args.stage.length - 1) 0 in
     let lt : k < length rows = let below = c.if-place-count.false in let enough = c.requires.rows in omega arith in
     let why : (row_at g.G.Grade rows k).reason ≡ reason.Notice c.in-Notice.number c.in-Notice.a = ap (λ r. r.reason) (read_row g.G.Grade rows k c.index-rows-place.result lt c.index-rows-place.is) ∙ c.in-Notice.is in (
       none_notice c.in-Notice.number c.in-Notice.a why (λ v stands is.
-          c.in-default-rule-under.not-Notice v (c.rule-under-in-Notice.ensures ∙ subst (λ j. get_or c.args.book.now.rules j rule.Free ≡ rule.Notice v) is ((notice_stands c.args.book.now v).0 stands))),
+          c.in_default-rule_under.not-Notice v (c.rule_under-in-Notice.ensures ∙ subst (λ j. get_or c.args.book.now.rules j rule.Free ≡ rule.Notice v) is ((notice_stands c.args.book.now v).0 stands))),
       refl,
     )
