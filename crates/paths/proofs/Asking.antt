@@ -24,7 +24,7 @@ use Rattle.rowtable.specs.Paths.{RowsSay}
 use Rattle.rowtable.specs.Saturated.{SaturatedTable}
 use Rattle.paths.specs.declared.refusal.PathRefusal.{PathRefusal}
 use Rattle.paths.specs.declared.refusal.PathRefusal.TheVariants.{TooLarge, NotOpened, ScratchShort, ListShort, NoWay, BrokenRow}
-use Rattle.paths.specs.Answers.{needed, Asked, path-number, Unasked}
+use Rattle.paths.specs.Answers.{needed, Asked, path_number, Unasked}
 use Rattle.paths.specs.Outcomes.{Starts, RowsSayOf, RowsUntold, RowsUnlaid, RunsUntold}
 use Rattle.paths.specs.Cells.{width, Sound}
 use Rattle.paths.proofs.Bridge.{best_way, no_way}
@@ -126,7 +126,7 @@ module _ {G : Type 0} (m : Ghosts G) (ls : List Line) (p : Phases) (rows : List 
   unasked_runs BrokenRow why = absurd why
 
 -- what stays as it was, whatever is told
-pub stays : {G X : Type 0} (n : ℕ) (r : Result G PathRefusal) (a b : X) → a ≡ b → IfErr r (λ e. path-number e < n → a ≡ b)
+pub stays : {G X : Type 0} (n : ℕ) (r : Result G PathRefusal) (a b : X) → a ≡ b → IfErr r (λ e. path_number e < n → a ≡ b)
 stays n (Ok v) a b same = tt
 stays n (Err e) a b same = λ lt. same
 

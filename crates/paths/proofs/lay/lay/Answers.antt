@@ -6,46 +6,46 @@ use Rattle.paths.proofs.Products.{within, small}
 use Rattle.paths.proofs.Laying.{Walk, walk_below, walk_on, walk_all}
 use Rattle.paths.proofs.lay.lay.Goals as goal
 
-pub state-index-requires : goal.state-index-requires
-state-index-requires g c = record { few = c.requires.few; exists = c.loop-at.invariant.exists }
+pub state_index-requires : goal.state_index-requires
+state_index-requires g c = record { few = c.requires.few; exists = c.loop-at.invariant.exists }
 
-pub overflow-add-base : goal.overflow-add-base
-overflow-add-base g c =
+pub overflow_add-base : goal.overflow_add-base
+overflow_add-base g c =
     let Fs = c.args.phases.now in
     let few = c.requires.few in
     let short = c.requires.short in
     let lt = c.loop-at-test.true in
     let is = c.loop-at.invariant.is in
     let low = small c.loop-at.at (width Fs) (omega arith) (omega arith) in
-    let inside = c.state-index.ensures.within in
+    let inside = c.state_index.ensures.within in
     omega arith
 
-pub row-of-cell-place-requires : goal.row-of-cell-place-requires
-row-of-cell-place-requires g c =
+pub row_of_cell-place-requires : goal.row_of_cell-place-requires
+row_of_cell-place-requires g c =
     let Fs = c.args.phases.now in
     let lt = c.loop-at-test.true in
     let is = c.loop-at.invariant.is in
     let room = within c.loop-at.at (length c.args.lane.now) (width Fs) (length c.args.cells.now) (omega arith) c.requires.room in
-    let inside = c.state-index.ensures.within in
+    let inside = c.state_index.ensures.within in
     omega arith
 
-pub other-end-state-requires : goal.other-end-state-requires
-other-end-state-requires g c =
+pub other_end-state-requires : goal.other_end-state-requires
+other_end-state-requires g c =
     let below = walk_below g.G.Grade (lines c.args.book.now) c.requires.lawful c.requires.sound c.requires.layered c.loop-at.invariant c.loop-at-test.true in
     let enough = c.requires.sound.enough in
-    let is : c.row-of-cell-place.result ≡ (cell_at c.args.cells.now (c.loop-at.base + index c.args.phases.now c.loop-at.state)).row =
-    c.row-of-cell-place.ensures ∙ ap (λ j. (cell_at c.args.cells.now (c.loop-at.base + j)).row) c.state-index.ensures.is in
+    let is : c.row_of_cell-place.result ≡ (cell_at c.args.cells.now (c.loop-at.base + index c.args.phases.now c.loop-at.state)).row =
+    c.row_of_cell-place.ensures ∙ ap (λ j. (cell_at c.args.cells.now (c.loop-at.base + j)).row) c.state_index.ensures.is in
     omega arith
 
-pub overflow-add-base-in-loop-at : goal.overflow-add-base-in-loop-at
-overflow-add-base-in-loop-at g c =
+pub overflow_add-base-in-loop-at : goal.overflow_add-base-in-loop-at
+overflow_add-base-in-loop-at g c =
     let Fs = c.args.phases.now in
     let few = c.requires.few in
     let short = c.requires.short in
     let lt = c.loop-at-test.true in
     let is = c.loop-at.invariant.is in
     let low = small c.loop-at.at (width Fs) (omega arith) (omega arith) in
-    let wide = c.layer-width-width.ensures in
+    let wide = c.layer_width-width.ensures in
     omega arith
 
 pub loop-at-init : goal.loop-at-init
@@ -65,14 +65,14 @@ loop-at-preserved g c =
     let list = c.loop-at.list in
     let at = c.loop-at.at in
     let slot = length lane - 1 - at in
-    let next = c.loop-at.base + c.layer-width-width.result in
+    let next = c.loop-at.base + c.layer_width-width.result in
     let lt = c.loop-at-test.true in
     let long = c.loop-at.auto.list in
     let places = c.requires.places in
-    let is : c.row-of-cell-place.result ≡ (cell_at c.args.cells.now (c.loop-at.base + index Fs c.loop-at.state)).row =
-    c.row-of-cell-place.ensures ∙ ap (λ j. (cell_at c.args.cells.now (c.loop-at.base + j)).row) c.state-index.ensures.is in
-    let on = walk_on g.G.Grade (lines c.args.book.now) c.requires.lawful c.requires.sound c.requires.layered c.loop-at.invariant lt (omega arith) slot next (omega arith) (ap (λ w. c.loop-at.base + w) c.layer-width-width.ensures) in
-    subst (Walk m (lines c.args.book.now) Fs rows c.args.count c.args.cells.now c.args.start lane (set list slot c.row-of-cell-place.result) (at + 1) next) (sym c.other-end-state.ensures)
+    let is : c.row_of_cell-place.result ≡ (cell_at c.args.cells.now (c.loop-at.base + index Fs c.loop-at.state)).row =
+    c.row_of_cell-place.ensures ∙ ap (λ j. (cell_at c.args.cells.now (c.loop-at.base + j)).row) c.state_index.ensures.is in
+    let on = walk_on g.G.Grade (lines c.args.book.now) c.requires.lawful c.requires.sound c.requires.layered c.loop-at.invariant lt (omega arith) slot next (omega arith) (ap (λ w. c.loop-at.base + w) c.layer_width-width.ensures) in
+    subst (Walk m (lines c.args.book.now) Fs rows c.args.count c.args.cells.now c.args.start lane (set list slot c.row_of_cell-place.result) (at + 1) next) (sym c.other_end-state.ensures)
     (subst (λ q. Walk m (lines c.args.book.now) Fs rows c.args.count c.args.cells.now c.args.start lane (set list slot q) (at + 1) next (row_at m rows q).to) (sym is) on)
 
 pub returns : goal.returns

@@ -6,8 +6,8 @@ use Rattle.rowtable.specs.Tables.{row_at}
 use Rattle.paths.proofs.Offers.{bring_step, layer_none}
 use Rattle.paths.proofs.layer.bring_rows.Goals as goal
 
-pub bring-row-requires : goal.bring-row-requires
-bring-row-requires g c =
+pub bring_row-requires : goal.bring_row-requires
+bring_row-requires g c =
     let m = g.G.Grade in
     let rows = c.args.rows.now in
     let i = c.loop-i.i in
@@ -41,7 +41,7 @@ loop-i-preserved g c =
     let is : c.index-rows-i.result ≡ row_at m rows i = get_or_read rows i c.index-rows-i.result (omega arith) c.index-rows-i.is (blank_row m.best) in
     let room : base + width Fs + width Fs ≤ length cells = let room = c.requires.room in let long = c.loop-i.auto.cells in omega arith in
     let step = bring_step c.lawful.ensures Fs rows x base old cells i room (c.requires.sound.from i lt) (c.requires.sound.to i lt) c.loop-i.invariant.1 c.loop-i.invariant.0 in
-    let made : brought m Fs cells base x i (row_at m rows i) ≡ c.bring-row.new.cells = sym (subst (λ r. c.bring-row.new.cells ≡ brought m Fs cells base x i r) is c.bring-row.ensures) in
+    let made : brought m Fs cells base x i (row_at m rows i) ≡ c.bring_row.new.cells = sym (subst (λ r. c.bring_row.new.cells ≡ brought m Fs cells base x i r) is c.bring_row.ensures) in
     subst (λ new. Layer m Fs new base (Via m Fs rows (i + 1) x old (base + width Fs)) × SameFrom (base + width Fs) old new) made step
 
 pub returns : goal.returns

@@ -14,8 +14,8 @@ loop-i-preserved g c s exists lt =
     let cells = c.loop-i.cells in
     let i = c.loop-i.i in
     let base = c.args.base in
-    let new = c.end-cell.result in
-    let wide = c.layer-width-width.ensures in
+    let new = c.end_cell.result in
+    let wide = c.layer_width-width.ensures in
     let within = c.loop-i-test.true in
     let room = c.requires.room in
     let long = c.loop-i.auto.cells in
@@ -25,13 +25,13 @@ loop-i-preserved g c s exists lt =
     (λ more.
     let e : i ≡ index Fs s = omega arith in
     subst (λ j. Says m (Stopping m (lines c.args.book.now) s) (cell_at (set cells (base + i) new) (base + j))) e
-    (subst (Says m (Stopping m (lines c.args.book.now) s)) (sym (get_or-set_same cells (base + i) new no_cell inside)) (c.end-cell.ensures s exists (sym e))))
+    (subst (Says m (Stopping m (lines c.args.book.now) s)) (sym (get_or-set_same cells (base + i) new no_cell inside)) (c.end_cell.ensures s exists (sym e))))
     (cases_lt (index Fs s) i)
 
 pub returns : goal.returns
 returns g c s exists =
     let Fs = c.args.phases.now in
-    let wide = c.layer-width-width.ensures in
+    let wide = c.layer_width-width.ensures in
     let done = c.loop-i-test.false in
     let below = index_below Fs s exists in
     let lt : index Fs s < c.loop-i.i = omega arith in
