@@ -41,7 +41,7 @@ fn row_lines<G: Grade + Shown>(
         let grade = row.grade.shown();
         lines.push(format!(in heap; "{from} by {wagon} to {to}: {grade}")?)?;
     }
-    lines.sort();
+    lines.sort()?;
     Ok(lines)
 }
 

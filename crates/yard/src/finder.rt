@@ -41,10 +41,9 @@ pub const AMPLE: Places = Places {
 pub fn read(text: &str) -> Result<Book, Fail> {
     let mut book = Book::new();
     for line in text.lines() {
-        assert!(
-            book.accept(line.as_bytes()).is_ok(),
-            "every line is accepted"
-        );
+        if book.accept(line.as_bytes()).is_err() {
+            return Err(Fail::new("a line is not accepted"));
+        }
     }
     Ok(book)
 }
