@@ -1,5 +1,5 @@
 -- The text of a book, cut into lines and entered, gives the book's lines again. Assumes nothing.
-use Rattle.std.proofs.Common.{◌≡◌, ℕ, suc, ◌+◌, ◌<◌, ◌≤◌, Bool, true, false, cond, eqb, leb, List, [], ◌∷◌, ◌++◌, map, length, Ok, Err, filter, Result, sym, refl, ap, ◌∙◌, subst, append_assoc, append-nil, arith}
+use Rattle.std.proofs.Common.{◌≡◌, ℕ, ◌+◌, ◌<◌, ◌≤◌, false, eqb, List, [], ◌∷◌, ◌++◌, map, length, Ok, filter, sym, refl, ap, ◌∙◌, subst, append_assoc, append-nil, arith}
 use Rattle.std.specs.List.{flat_map, AllByRecursion as All}
 use Rattle.std.proofs.lemmas.List.{length-append}
 use Rattle.std.proofs.lemmas.Bool.{cond-false, ne_eqb, lt-leb}
@@ -12,10 +12,10 @@ use Rattle.text.specs.Meaning.{Within}
 use Rattle.text.proofs.Right.{reads_right}
 use Rattle.text.proofs.Texts.{text_one_line}
 use Rattle.book.specs.declared.tables.Book.{Book}
-use Rattle.book.specs.Order.{Ascending, put}
+use Rattle.book.specs.Order.{put}
 use Rattle.book.specs.Ranks.{Kind, opens, watches, links, kind, rank, Sorted}
 use Rattle.book.specs.Lines.{lines}
-use Rattle.book.specs.Entering.{same_kind, many, clashes, full, entered, and_then, entered_all}
+use Rattle.book.specs.Entering.{same_kind, many, full, entered, and_then, entered_all}
 use Rattle.book.specs.Writing.{ended, book_text, before_first, split, ReadsBack}
 use Rattle.book.proofs.Ascent.{put_low, among_none}
 use Rattle.book.proofs.Books.{sorted_lines, within_lines}

@@ -1,6 +1,6 @@
 -- Two lines have one rank just where they are the same, or orders or notices with one number. Assumes nothing.
-use Rattle.std.proofs.Common.{◌≡◌, ℕ, ◌+◌, ◌-◌, ◌*◌, ◌/◌, ◌%◌, ◌<◌, ◌≤◌, Bool, true, false, cond, ltb, ◌⊎◌, List, length, get_or, Some, None, Option, sym, refl, ap, ◌∙◌, subst, inl, inr, ⊎_elim, arith}
-use Rattle.std.specs.List.{ContainsAt as Has, AllByRecursion as All}
+use Rattle.std.proofs.Common.{◌≡◌, ℕ, ◌+◌, ◌-◌, ◌/◌, ◌%◌, ◌<◌, ◌≤◌, true, cond, ltb, List, get_or, Some, None, Option, sym, refl, ap, ◌∙◌, subst, inl, inr, ⊎_elim, arith}
+use Rattle.std.specs.List.{AllByRecursion as All}
 use Rattle.std.proofs.lemmas.Bool.{cond-true, cond-false, lt-ltb, le-ltb, cases_lt, cases_order}
 use Rattle.std.proofs.ByRecursion.{all-has}
 use Rattle.grade.specs.declared.upto.UpTo.{UpTo}
@@ -9,7 +9,7 @@ use Rattle.text.specs.declared.line.Line.{Line}
 use Rattle.text.specs.declared.line.Line.TheVariants.{Order, Notice, Open, Watch, Link, End, Bare}
 use Rattle.text.specs.Numerals.{kept}
 use Rattle.text.specs.Meaning.{Within}
-use Rattle.book.specs.Ranks.{Kind, rules, opens, watches, links, ends, bares, start, stop, rank, Sorted}
+use Rattle.book.specs.Ranks.{opens, watches, links, ends, bares, start, stop, rank, Sorted}
 use Rattle.book.specs.Order.{among}
 use Rattle.book.specs.Entering.{clashes}
 use Rattle.book.specs.Words.{number, Bars, Clash, Once}

@@ -1,23 +1,20 @@
 -- The lines of a book: of each kind in order, all together sorted; how a line is added. Assumes nothing.
-use Rattle.std.proofs.Common.{◌≡◌, ℕ, ◌+◌, ◌^◌, ◌<◌, ◌≤◌, Bool, true, false, cond, ltb, ◌⊎◌, List, [], ◌∷◌, ◌++◌, map, length, take, sym, refl, ap, ◌∙◌, subst, inl, inr, ⊎_elim, arith}
+use Rattle.std.proofs.Common.{◌≡◌, ℕ, ◌^◌, ◌<◌, ◌≤◌, Bool, true, false, ltb, List, [], ◌∷◌, ◌++◌, map, length, take, sym, refl, ◌∙◌, inl, inr, arith}
 use native.Mathlib.Bridge.{le_prop}
 use base.Stored.{Coded-set, coded_ℕ}
 use Rattle.std.specs.List.{flat_map, AllByRecursion as All}
-use Rattle.std.proofs.lemmas.List.{length-map, length-take-le}
 use Rattle.std.proofs.lemmas.Bool.{cond-false, le-ltb}
 use Rattle.std.proofs.ByRecursion.{All-weaker, All-map, All-take}
 use Rattle.text.specs.declared.line.Line.{Line}
 use Rattle.text.specs.declared.line.Line.TheVariants as line
-use Rattle.text.specs.declared.line.WatchLine.{WatchLine}
-use Rattle.text.specs.declared.line.LinkLine.{LinkLine}
 use Rattle.text.specs.Numerals.{kept}
 use Rattle.text.specs.Meaning.{Within}
 use Rattle.book.specs.declared.rule.Rule.{Rule}
 use Rattle.book.specs.declared.rule.Rule.TheVariants.{Free, Order, Notice}
 use Rattle.book.specs.declared.tables.Book.{Book}
 use Rattle.book.specs.Order.{Ascending, among, put}
-use Rattle.book.specs.Ranks.{Kind, kinds, rules, opens, watches, links, ends, bares, kind, start, stop, rank, Sorted, phase_rank, watch_rank, link_rank}
-use Rattle.book.specs.Tables.{Along, AtNumber, rule_line, end_line, bare_line, by_number}
+use Rattle.book.specs.Ranks.{Kind, rules, opens, watches, links, ends, bares, kind, start, rank, Sorted, phase_rank, watch_rank, link_rank}
+use Rattle.book.specs.Tables.{Along, AtNumber, rule_line, end_line, bare_line}
 use Rattle.book.specs.Lines.{lines_of, lines}
 use Rattle.book.specs.Entering.{clashes, many}
 use Rattle.book.proofs.Ascent.{all_told, ascending_told, ascending_map}

@@ -1,11 +1,11 @@
 -- What entering a text gives, from what reading it gave. Assumes nothing.
-use Rattle.std.proofs.Common.{◌≡◌, ℕ, Bool, true, false, cond, ◌⊎◌, List, Ok, Err, Result, sym, refl, ap, ◌∙◌, subst, inl, inr}
-use Rattle.std.specs.List.{ContainsAt as Has, AllByRecursion as All}
+use Rattle.std.proofs.Common.{◌≡◌, ℕ, true, false, cond, List, Ok, Err, Result, sym, ap, ◌∙◌, subst}
+use Rattle.std.specs.List.{ContainsAt as Has}
 use Rattle.std.proofs.lemmas.Bool.{cond-true, cond-false, both_ways}
 use Rattle.text.specs.declared.line.Line.{Line}
 use Rattle.text.specs.declared.refusal.LineRefusal.{LineRefusal}
 use Rattle.text.specs.Reading.{Outcome, read}
-use Rattle.text.specs.Meaning.{Within, Says}
+use Rattle.text.specs.Meaning.{Says}
 use Rattle.book.specs.declared.refusal.Refusal.{Refusal}
 use Rattle.book.specs.declared.refusal.Refusal.TheVariants.{Line as Misread, Stands, Full}
 use Rattle.book.specs.Order.{put}

@@ -1,5 +1,5 @@
 -- A book is told by its lines, and so by its text. Assumes nothing.
-use Rattle.std.proofs.Common.{◌≡◌, ℕ, ◌+◌, ◌-◌, ◌<◌, ◌≤◌, Bool, true, false, cond, ◌↔◌, List, [], ◌∷◌, ◌++◌, map, length, take, drop, replicate, Ok, Err, Result, sym, refl, ap, ◌∙◌, subst, arith}
+use Rattle.std.proofs.Common.{◌≡◌, ℕ, ◌-◌, ◌<◌, ◌≤◌, Bool, true, false, cond, List, [], ◌∷◌, ◌++◌, map, length, take, drop, replicate, Ok, Result, sym, refl, ap, ◌∙◌, subst, arith}
 use denote.Struct.Cover.{Cover-one}
 use Rattle.std.specs.List.{ContainsAt as Has, flat_map, AllByRecursion as All}
 use Rattle.std.proofs.lemmas.List.{length-map, length-take-le, take-append-drop}
@@ -13,7 +13,7 @@ use Rattle.book.specs.declared.refusal.Refusal.{Refusal}
 use Rattle.book.specs.declared.tables.Book.{Book}
 use Rattle.book.specs.contracts.tables.Book.{the_type}
 use Rattle.book.specs.Order.{Tidy}
-use Rattle.book.specs.Ranks.{Kind, kinds, rules, opens, watches, links, ends, bares, start, stop, rank, phase_rank, watch_rank, link_rank}
+use Rattle.book.specs.Ranks.{Kind, rules, opens, watches, links, ends, bares, start, stop, rank, phase_rank, watch_rank, link_rank}
 use Rattle.book.specs.Tables.{blank_watch, blank_link, rule_line, end_line, bare_line}
 use Rattle.book.specs.Lines.{lines_of, lines}
 use Rattle.book.specs.Entering.{entered_all}

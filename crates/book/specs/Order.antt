@@ -1,5 +1,5 @@
 -- Lists in the order of a rank, and tables that are kept so.
-use Rattle.std.specs.Prelude.{◌≡◌, ℕ, suc, ◌-◌, ◌<◌, ◌≤◌, Bool, true, false, cond, ◌||◌, List, [], ◌∷◌, length, take, drop, replicate, ◌==◌, nat_lt}
+use Rattle.std.specs.Prelude.{◌≡◌, ℕ, suc, ◌-◌, ◌<◌, ◌≤◌, Bool, false, cond, ◌||◌, List, [], ◌∷◌, length, take, drop, replicate, ◌==◌, nat_lt}
 use Rattle.std.specs.List.{AllByRecursion as All}
 
 -- each has a lower rank than all behind it

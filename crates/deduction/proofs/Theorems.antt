@@ -1,6 +1,6 @@
 -- The theorems, for entries of any types.
 use mathlib.Core.Path.{◌≡◌, refl, sym, subst}
-use mathlib.Core.Logic.{◌⊎◌, inl, inr, ⊎_elim}
+use mathlib.Core.Logic.{inl, inr, ⊎_elim}
 use Rattle.deduction.specs.Lists.{In}
 use Rattle.deduction.specs.Grades.{NoWorse}
 use Rattle.deduction.specs.Derivations.{Derivation, joined_grade}

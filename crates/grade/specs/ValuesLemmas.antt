@@ -1,6 +1,5 @@
 -- Two numbers of one type with one value are the same, since a bound has one proof.
 use Rattle.std.specs.Prelude.{◌≡◌, ℕ, ◌≤◌}
-use Rattle.std.proofs.Common.{ap}
 use mathlib.Core.HLevel.{is_prop→PathP}
 use Rattle.std.proofs.Math.Bridge.{le_prop}
 use Rattle.grade.specs.declared.upto.UpTo.{UpTo}

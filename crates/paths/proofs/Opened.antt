@@ -1,5 +1,5 @@
 -- What is told of the rows of any table, where the phases are those that the lines open.
-use Rattle.std.proofs.Common.{◌≡◌, ℕ, ◌+◌, ◌<◌, ◌≤◌, List, reverse, length, take, Ok, Err, Result, sym, refl, ◌∙◌, subst, arith}
+use Rattle.std.proofs.Common.{ℕ, List, reverse, length, take, Ok, Err, Result, sym, refl, ◌∙◌, subst, arith}
 use Rattle.grade.specs.declared.grade.Grade.{Ghosts}
 use Rattle.grade.specs.Lawful.{Lawful}
 use Rattle.text.specs.declared.line.Line.{Line}
@@ -11,7 +11,7 @@ use Rattle.rows.specs.Rows.{head}
 use Rattle.rows.specs.Ways.{Way, Saturated}
 use Rattle.rows.proofs.Graded.{saturated_best, saturated_some}
 use Rattle.phases.specs.declared.table.Phases.{Phases}
-use Rattle.phases.specs.Table.{used, FirstAt, Holds, OpenedBy}
+use Rattle.phases.specs.Table.{used, Holds, OpenedBy}
 use Rattle.rowtable.specs.declared.row.TableState.{TableState}
 use Rattle.rowtable.specs.declared.row.TableState.TheVariants.{Head}
 use Rattle.rowtable.specs.declared.row.TableRow.{TableRow}
@@ -22,7 +22,7 @@ use Rattle.paths.specs.declared.refusal.PathRefusal.TheVariants.{TooLarge, NotOp
 use Rattle.paths.specs.Cells.{Sound}
 use Rattle.paths.specs.Layers.{RowWay, PathOf}
 use Rattle.paths.specs.Runs.{Reasoned}
-use Rattle.paths.specs.Answers.{Asked, Unasked, BestTold, RunsTold, PathLaid, LaidTold, RunLaid}
+use Rattle.paths.specs.Answers.{Asked, BestTold, RunsTold, PathLaid, LaidTold, RunLaid}
 use Rattle.paths.specs.Outcomes.{Starts, RowsSayOf, BestRowsTold, RowsLaid, RowsLaidTold}
 use Rattle.paths.proofs.Asking.{opened_opens, used_length, start_head}
 use Rattle.paths.proofs.Bridge.{best_way, no_way, path_of}

@@ -3,14 +3,12 @@ use Rattle.std.proofs.Common.{◌≡◌, ℕ, zero, suc, ◌+◌, ◌<◌, List,
 use Rattle.std.specs.List.{AllByRecursion as All}
 use Rattle.grade.specs.declared.grade.Grade.{Ghosts}
 use Rattle.grade.specs.Lawful.{Lawful}
-use Rattle.text.specs.declared.line.OrderLine.{OrderLine}
-use Rattle.text.specs.declared.line.NoticeLine.{NoticeLine}
 use Rattle.text.specs.declared.line.Line.{Line}
 use Rattle.model.specs.Phases.{after}
 use Rattle.model.specs.Moves.{Position, at, Move, order_move, notice_move, laid_down, by_order, by_notice, stay, go}
-use Rattle.model.specs.Watch.{Leads, ends, links, Watched, bare, read, Reaches}
+use Rattle.model.specs.Watch.{Leads, ends, links, bare, read}
 use Rattle.model.specs.Grades.{moves_grade}
-use Rattle.rows.specs.Rows.{State, head, node, wagon, Row, row}
+use Rattle.rows.specs.Rows.{State, head, node, wagon, row}
 use Rattle.rows.specs.Paths.{Stop, end_stop, bare_stop}
 use Rattle.rows.proofs.Graded.{append_grade}
 use Rattle.rowtable.specs.declared.row.Reason.{Reason}
@@ -18,7 +16,7 @@ use Rattle.rowtable.specs.declared.row.Reason.TheVariants as reason
 use Rattle.rowtable.specs.declared.row.TableRow.{TableRow}
 use Rattle.rowtable.specs.Tables.{row_of, row_at}
 use Rattle.paths.specs.Layers.{PathOf, path_end, path_on}
-use Rattle.paths.specs.Runs.{parts, Earlier, LineRow, StandsFor, arrived, on_order, on_notice, Chain, chain_none, chain_on, RightLine, right_link, right_watch, RightOrder, RightNotice, Right, Reasoned, PathsStand, StandsReach}
+use Rattle.paths.specs.Runs.{parts, Earlier, LineRow, StandsFor, arrived, on_order, on_notice, Chain, chain_none, chain_on, RightLine, right_link, right_watch, RightOrder, RightNotice, Right, Reasoned, StandsReach}
 
 pub stands_reach : {G : Type 0} (m : Ghosts G) (ls : List Line) (Fs : List ℕ) (rows : List (TableRow G)) (n : ℕ) → StandsReach m ls Fs rows n
 stands_reach m ls Fs rows n x ks ms (arrived held lines) = record { last = x; run = stay; held = held }

@@ -9,12 +9,10 @@ use Rattle.rows.specs.Rows.{head}
 use Rattle.phases.specs.declared.table.Phases.{Phases}
 use Rattle.phases.specs.Table.{used, Holds, OpenedBy}
 use Rattle.phases.specs.Held.{Fits}
-use Rattle.rowtable.specs.declared.row.TableState.{TableState}
 use Rattle.rowtable.specs.declared.row.TableRow.{TableRow}
-use Rattle.rowtable.specs.Tables.{state_of, Exists}
 use Rattle.paths.specs.declared.refusal.PathRefusal.{PathRefusal}
 use Rattle.paths.specs.declared.refusal.PathRefusal.TheVariants.{TooLarge, NotOpened, ScratchShort, ListShort, NoWay, BrokenRow}
-use Rattle.paths.specs.Cells.{width, Sound}
+use Rattle.paths.specs.Cells.{Sound}
 use Rattle.paths.specs.Layers.{RowWay, PathOf}
 use Rattle.paths.specs.Runs.{StandsFor}
 

@@ -1,13 +1,12 @@
 -- What is told of the best path over the rows of any table, whatever phases stand in the table of phases.
-use Rattle.std.specs.Prelude.{◌≡◌, ℕ, ◌+◌, ◌*◌, ◌<◌, ◌≤◌, List, reverse, length, take, IfOk, Result, MatchResult}
+use Rattle.std.specs.Prelude.{◌≡◌, ℕ, ◌+◌, ◌<◌, ◌≤◌, List, reverse, length, take, IfOk, Result, MatchResult}
 use Rattle.grade.specs.declared.grade.Grade.{Ghosts}
 use Rattle.text.specs.declared.line.Line.{Line}
 use Rattle.model.specs.Moves.{Position, Move}
 use Rattle.model.specs.Watch.{Reaches}
 use Rattle.model.specs.Grades.{moves_grade, RunGrade, Best}
 use Rattle.phases.specs.declared.table.Phases.{Phases}
-use Rattle.phases.specs.Table.{used, FirstAt, Holds}
-use Rattle.phases.specs.Held.{Fits}
+use Rattle.phases.specs.Table.{used, FirstAt}
 use Rattle.rowtable.specs.declared.row.TableState.{TableState}
 use Rattle.rowtable.specs.declared.row.TableState.TheVariants.{Head}
 use Rattle.rowtable.specs.declared.row.TableRow.{TableRow}

@@ -14,7 +14,7 @@ use Rattle.model.specs.Phases.{Stands, InForce, Allows, after, Opened}
 use Rattle.model.specs.Moves.{Position, at, Move, order_move, notice_move, laid_down}
 use Rattle.model.specs.Watch.{Watched, Reaches}
 use Rattle.model.specs.Grades.{moves_grade}
-use Rattle.rows.specs.Rows.{State, head, wagon, Row, row, link_row, watch_row, order_row, notice_row, noticed_row}
+use Rattle.rows.specs.Rows.{State, head, wagon, row, link_row, watch_row, order_row, notice_row, noticed_row}
 use Rattle.rowtable.specs.declared.row.Reason.{Reason}
 use Rattle.rowtable.specs.declared.row.Reason.TheVariants as reason
 use Rattle.rowtable.specs.declared.row.TableRow.{TableRow}

@@ -4,7 +4,6 @@ use Rattle.std.proofs.lemmas.List.{get_or-set_same, get_or-set_other, get_or-rep
 use Rattle.std.proofs.lemmas.Bool.{cases_lt}
 use Rattle.text.specs.declared.line.NoticeLine.{NoticeLine}
 use Rattle.text.specs.declared.line.Line.{Line}
-use Rattle.text.specs.declared.line.Line.TheVariants.{Notice}
 use Rattle.deduction.specs.Counting.{Different}
 use Rattle.deduction.proofs.Counting.{filled_outnumber, overfull_outnumber}
 use Rattle.model.specs.Phases.{Allows, after, Opened}

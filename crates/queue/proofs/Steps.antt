@@ -1,13 +1,13 @@
 -- What `put`, `take` and `replace` come to.
-use Rattle.std.proofs.Common.{◌≡◌, ℕ, ◌+◌, ◌-◌, ◌<◌, ◌≤◌, Bool, T, List, [], ◌∷◌, ◌++◌, length, get_or, take, drop, set, sym, refl, ap, ◌∙◌, subst, ⊎_elim, arith}
+use Rattle.std.proofs.Common.{◌≡◌, ℕ, ◌+◌, ◌-◌, ◌<◌, ◌≤◌, Bool, T, List, [], ◌∷◌, ◌++◌, length, get_or, take, drop, set, sym, ap, ◌∙◌, subst, ⊎_elim, arith}
 use Rattle.std.specs.List.{swap}
 use Rattle.std.specs.List.Sorted.{IsPermutation}
 use Rattle.std.proofs.lemmas.List.{get_or_read, get_or-take, get_or-set_same, get_or-set_other, length-set, length-take-le, take_more, take_more_set, drop_more, drop-set-lt}
 use Rattle.std.proofs.lemmas.List.Sorted.{IsPermutation-sym, IsPermutation-trans, IsPermutation-cons, IsPermutation-to_front}
 use Rattle.std.proofs.lemmas.List.Edits.{Swapped}
 use Rattle.grade.specs.Laws.{Total, Transitive}
-use Rattle.queue.specs.Heaps.{at, Child, Heap, HeapBelow, Rising, Reordered}
-use Rattle.queue.specs.Queues.{Queue, Put, Taken, Replaced}
+use Rattle.queue.specs.Heaps.{at, Heap, HeapBelow, Rising, Reordered}
+use Rattle.queue.specs.Queues.{Put, Taken, Replaced}
 use Rattle.queue.proofs.Orders.{which, both, first_best}
 use Rattle.queue.proofs.Places.{swaps, take_set_in, others, to_front, others_set}
 

@@ -1,5 +1,5 @@
 -- The rows that wait at the start.
-use Rattle.std.proofs.Common.{◌≡◌, ℕ, ◌<◌, ◌≤◌, List, [], ◌∷◌, map, length, get_or, take, sym, refl, ap, ◌∙◌, subst, arith}
+use Rattle.std.proofs.Common.{◌≡◌, ℕ, ◌<◌, ◌≤◌, List, [], length, get_or, take, sym, refl, ◌∙◌, subst, arith}
 use Rattle.std.specs.List.{ContainsAt as Has}
 use Rattle.std.proofs.lemmas.List.{length-take, get_or-take, get_or_default}
 use Rattle.grade.specs.declared.grade.Grade.{Ghosts}
@@ -8,9 +8,6 @@ use Rattle.text.specs.declared.line.Line.TheVariants as line
 use Rattle.text.specs.declared.line.OrderLine.{OrderLine}
 use Rattle.text.specs.declared.line.WatchLine.{WatchLine}
 use Rattle.text.specs.declared.line.LinkLine.{LinkLine}
-use Rattle.text.specs.declared.line.Wagons.{Wagons}
-use Rattle.text.specs.declared.line.Wagons.TheVariants.{Zero, One, Two}
-use Rattle.text.specs.Forms.{listed}
 use Rattle.model.specs.Phases.{Stands, InForce, Opened}
 use Rattle.model.specs.Moves.{laid_down}
 use Rattle.book.specs.declared.rule.Rule.TheVariants as rule

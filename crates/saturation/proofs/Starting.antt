@@ -1,5 +1,5 @@
 -- At the start exactly what rests on no other row waits.
-use Rattle.std.proofs.Common.{◌≡◌, ℕ, ◌<◌, ◌⊎◌, List, [], length, Some, None, Option, sym, refl, ap, ◌∙◌, subst, subst₂, ⊎_elim, arith}
+use Rattle.std.proofs.Common.{◌≡◌, ℕ, ◌<◌, List, [], length, Some, None, Option, sym, refl, ap, ◌∙◌, subst, subst₂, ⊎_elim, arith}
 use Rattle.std.proofs.lemmas.List.{length-take, get_or-take}
 use Rattle.grade.specs.declared.grade.Grade.{Ghosts}
 use Rattle.grade.specs.declared.waiting.Waiting.{Waiting}
@@ -9,7 +9,6 @@ use Rattle.deduction.specs.Derivations.{Derivation, Derived}
 use Rattle.deduction.specs.Saturation.{Reached}
 use Rattle.deduction.proofs.Settling.{start_holds}
 use Rattle.deduction.proofs.Counting.{overfull_outnumber}
-use Rattle.text.specs.declared.line.Line.TheVariants as line
 use Rattle.model.specs.Phases.{InForce}
 use Rattle.book.specs.declared.tables.Book.{Book}
 use Rattle.book.specs.Tables.{blank_watch, blank_link}

@@ -1,5 +1,5 @@
 -- The row table once all rows are settled.
-use Rattle.std.specs.Prelude.{◌≡◌, ℕ, ◌<◌, ◌≤◌, List, length}
+use Rattle.std.specs.Prelude.{◌≡◌, ℕ, ◌<◌, ◌≤◌, List}
 use Rattle.grade.specs.declared.grade.Grade.{Ghosts}
 use Rattle.deduction.specs.Counting.{Outnumber}
 use Rattle.deduction.specs.Derivations.{Derivation}

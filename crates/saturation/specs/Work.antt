@@ -17,7 +17,6 @@ use Rattle.text.specs.declared.line.Wagons.TheVariants.{Zero, One, Two}
 use Rattle.model.specs.Phases.{InForce, Allows, after, Opened}
 use Rattle.book.specs.declared.rule.Rule.TheVariants as rule
 use Rattle.book.specs.declared.tables.Book.{Book}
-use Rattle.book.specs.Lines.{lines}
 use Rattle.rows.specs.Rows.{Row, wagon, Rule, premises, order_row, notice_row, row_rules}
 use Rattle.rows.specs.Ways.{row_system}
 use Rattle.rowtable.specs.declared.row.TableState.{TableState}

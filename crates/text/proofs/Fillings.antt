@@ -1,5 +1,5 @@
 -- What a filling of a form's parts stands for, and which values a line can hold. Assumes nothing.
-use Rattle.std.proofs.Common.{ℕ, ◌^◌, ◌<◌, Bool, true, false, cond, List, [], ◌∷◌, ◌++◌, map}
+use Rattle.std.proofs.Common.{ℕ, ◌^◌, ◌<◌, List, [], ◌∷◌, map}
 use Rattle.grade.specs.declared.upto.UpTo.{UpTo}
 use Rattle.text.specs.Phases.{with_all}
 use Rattle.text.specs.Numerals.{value, kept}

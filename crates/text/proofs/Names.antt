@@ -1,9 +1,9 @@
 -- The names of the forms at the front of a line. Assumes nothing.
-use Rattle.std.proofs.Common.{◌≡◌, ℕ, ◌+◌, ◌<◌, ◌≤◌, max, Bool, true, false, cond, eqb, List, [], ◌∷◌, ◌++◌, length, get_or, drop, Ok, Err, codes, sym, refl, ap, ◌∙◌, ⊎_elim, arith}
+use Rattle.std.proofs.Common.{◌≡◌, ℕ, ◌+◌, ◌<◌, ◌≤◌, max, eqb, List, [], ◌∷◌, ◌++◌, length, get_or, drop, Err, sym, refl, ap, ◌∙◌, ⊎_elim, arith}
 use Rattle.std.proofs.lemmas.List.{drop_more, drop_all}
 use Rattle.std.proofs.lemmas.Bool.{eq-eqb, ne_eqb, cond-true, cond-false, cond_both, eqb-true, cases_Bool, both_ways}
 use Rattle.text.specs.declared.refusal.LineRefusal.TheVariants.{Syntax}
-use Rattle.text.specs.Reading.{Next, Outcome, take_word}
+use Rattle.text.specs.Reading.{Next, take_word}
 use Rattle.text.specs.Steps.{agree}
 
 module _ (w s : List ℕ) (n : ℕ) where

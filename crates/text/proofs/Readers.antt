@@ -1,13 +1,13 @@
 -- What a reader has taken off its line. Assumes nothing.
-use Rattle.std.proofs.Common.{◌≡◌, ℕ, suc, ◌+◌, ◌-◌, ◌*◌, ◌<◌, ◌≤◌, min, Bool, true, false, cond, eqb, ltb, leb, ◌⊎◌, List, [], ◌∷◌, ◌++◌, length, get_or, Ok, Err, sym, refl, ap, ◌∙◌, subst, inl, inr, arith}
+use Rattle.std.proofs.Common.{◌≡◌, ℕ, suc, ◌+◌, ◌<◌, ◌≤◌, min, Bool, false, cond, ltb, List, ◌∷◌, length, get_or, Err, sym, ap, ◌∙◌, inl, inr, arith}
 use Rattle.std.proofs.lemmas.Bool.{lt-ltb, le-ltb, ltb-true, ltb-false, cond-true, cond-false, cases_Bool}
 use Rattle.grade.specs.declared.upto.UpTo.{UpTo}
 use Rattle.grade.specs.ValuesLemmas.{same_upto}
 use Rattle.text.specs.declared.refusal.LineRefusal.TheVariants.{Syntax}
 use Rattle.text.specs.declared.line_reader.LineReader.{LineReader}
-use Rattle.text.specs.Numerals.{Taken, digit, digits, numeral, starts, kept}
-use Rattle.text.specs.Reading.{Next, Outcome, noted, take_number, take_numbers}
-use Rattle.text.specs.Steps.{DigitsOff, NumberOff, number_then, goes_on}
+use Rattle.text.specs.Numerals.{Taken, digits, numeral, starts, kept}
+use Rattle.text.specs.Reading.{Next, noted, take_number, take_numbers}
+use Rattle.text.specs.Steps.{DigitsOff, NumberOff, number_then}
 use Rattle.text.proofs.Steps.{digits_stop}
 
 -- no digit stands next

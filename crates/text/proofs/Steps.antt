@@ -1,10 +1,10 @@
 -- One step of reading a line. Assumes nothing.
-use Rattle.std.proofs.Common.{◌≡◌, ℕ, suc, ◌+◌, ◌-◌, ◌*◌, ◌<◌, ◌≤◌, min, Bool, true, false, cond, eqb, ltb, leb, List, [], ◌∷◌, ◌++◌, length, get_or, take, drop, Ok, Err, sym, refl, ap, ◌∙◌, subst, ⊎_elim, arith}
+use Rattle.std.proofs.Common.{◌≡◌, ℕ, ◌+◌, ◌-◌, ◌*◌, ◌<◌, ◌≤◌, Bool, true, false, cond, eqb, leb, List, [], ◌∷◌, ◌++◌, length, get_or, take, drop, Err, sym, refl, ap, ◌∙◌, ⊎_elim, arith}
 use Rattle.std.proofs.lemmas.List.{take_rest, drop_more}
-use Rattle.std.proofs.lemmas.Bool.{eq-eqb, ne_eqb, lt-ltb, le-ltb, le-leb, leb-true, and_from, and_parts, cond-true, cond-false, cond_both, eqb-true, cases_Bool}
+use Rattle.std.proofs.lemmas.Bool.{eq-eqb, ne_eqb, le-leb, leb-true, and_from, and_parts, cond-true, cond-false, cond_both, eqb-true, cases_Bool}
 use Rattle.text.specs.declared.refusal.LineRefusal.TheVariants.{Syntax}
-use Rattle.text.specs.Numerals.{Taken, digit, digits, numeral, starts}
-use Rattle.text.specs.Reading.{Next, Outcome, take_word, noted}
+use Rattle.text.specs.Numerals.{digit, digits}
+use Rattle.text.specs.Reading.{Next, take_word, noted}
 
 -- s has the bytes of w from place i on
 abbrev pub At : List ℕ → ℕ → List ℕ → Type 0

@@ -7,7 +7,7 @@ use Rattle.text.specs.declared.line.Line.{Line}
 use Rattle.text.specs.declared.refusal.LineRefusal.TheVariants.{TooLarge, NotRising}
 use Rattle.text.specs.Numerals.{value}
 use Rattle.text.specs.Forms.{Part, word, number, wagons, rising}
-use Rattle.text.specs.Reading.{Outcome, noted}
+use Rattle.text.specs.Reading.{Outcome}
 use Rattle.text.specs.Meaning.{Filling, blank_digits, Mark, list_marks, marks, FirstAt, Above, Falls}
 use Rattle.text.proofs.Filled.{settled, above, fell, first, kept_list, kept_marks}
 

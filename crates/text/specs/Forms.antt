@@ -6,7 +6,7 @@ use Rattle.text.specs.declared.line.Wagons.{Wagons}
 use Rattle.text.specs.declared.line.Wagons.TheVariants.{Zero, One, Two}
 use Rattle.text.specs.declared.line.Line.{Line}
 use Rattle.text.specs.declared.line.Line.TheVariants.{Order, Notice, Open, Watch, Link, End, Bare}
-use Rattle.text.specs.Phases.{members, with_all}
+use Rattle.text.specs.Phases.{members}
 
 -- what may stand in a form
 pub data Part : Type 0 where

@@ -6,7 +6,7 @@ use Rattle.text.specs.declared.line.Line.TheVariants.{Order, Notice, Open, Watch
 use Rattle.text.specs.declared.refusal.LineRefusal.{LineRefusal}
 use Rattle.text.specs.declared.refusal.LineRefusal.TheVariants.{Syntax, TooLarge, NotRising}
 use Rattle.text.specs.Numerals.{Numeral, value}
-use Rattle.text.specs.Forms.{Part, Form, Values, word, number, wagons, rising, spelled, text, forms}
+use Rattle.text.specs.Forms.{Part, Form, Values, word, number, wagons, rising, text, forms}
 use Rattle.text.specs.Reading.{Outcome, read}
 
 -- what the parts of a form may be filled with: any numbers, each by its digits

@@ -1,10 +1,10 @@
 -- What is left to read of a line, as a reader has it.
-use Rattle.std.specs.Prelude.{◌≡◌, ℕ, suc, ◌+◌, min, max, Bool, true, cond, List, [], ◌∷◌, ◌++◌, Some, None, codes, Option, ◌==◌, ◌≢◌}
+use Rattle.std.specs.Prelude.{◌≡◌, ℕ, ◌+◌, min, max, Bool, true, cond, List, [], ◌∷◌, ◌++◌, Some, None, codes, Option, ◌==◌, ◌≢◌}
 use Rattle.std.specs.Borrow.{Bor}
 use Rattle.grade.specs.declared.upto.UpTo.{UpTo}
 use Rattle.text.specs.declared.line.Line.{Line}
 use Rattle.text.specs.declared.line_reader.LineReader.{LineReader}
-use Rattle.text.specs.Numerals.{Taken, digits, numeral, starts}
+use Rattle.text.specs.Numerals.{digits, numeral, starts}
 use Rattle.text.specs.Forms.{Part, Values}
 use Rattle.text.specs.Reading.{Outcome, Next, scan, take_word, take_number, take_numbers}
 

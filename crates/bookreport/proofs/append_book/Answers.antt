@@ -1,5 +1,5 @@
-use Rattle.std.proofs.Common.{◌≡◌, ℕ, List, [], ◌++◌, length, vec_items, sym, ap, ◌∙◌, append-nil, arith, rules}
-use Rattle.std.proofs.lemmas.List.{take_at, drop_all, length-replicate}
+use Rattle.std.proofs.Common.{◌≡◌, ℕ, List, ◌++◌, length, vec_items, ap, ◌∙◌, append-nil, arith, rules}
+use Rattle.std.proofs.lemmas.List.{take_at, drop_all}
 use Rattle.book.specs.Lines.{lines}
 use Rattle.book.specs.Writing.{book_text}
 use Rattle.bookreport.proofs.append_book.Goals as goal

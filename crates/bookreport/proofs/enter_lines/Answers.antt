@@ -1,4 +1,4 @@
-use Rattle.std.proofs.Common.{◌≡◌, ◌+◌, ◌<◌, cond, [], ◌∷◌, length, vec_items, sym, refl, ap, ◌∙◌, arith}
+use Rattle.std.proofs.Common.{◌+◌, cond, length, vec_items, sym, ap, ◌∙◌, arith}
 use Rattle.book.specs.Lines.{lines}
 use Rattle.book.specs.Writing.{split}
 use Rattle.bookreport.proofs.Turns.{book_on, notes_on, count_on}

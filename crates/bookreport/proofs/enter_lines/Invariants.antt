@@ -1,4 +1,4 @@
-use Rattle.std.proofs.Common.{◌≡◌, ◌+◌, ◌≤◌, [], ◌++◌, length, vec_items}
+use Rattle.std.proofs.Common.{◌≡◌, ◌+◌, ◌≤◌, ◌++◌, length, vec_items}
 use Rattle.std.specs.List.{flat_map}
 use Rattle.book.specs.Lines.{lines}
 use Rattle.book.specs.Writing.{split}

@@ -1,4 +1,4 @@
-use Rattle.std.proofs.Common.{◌≡◌, ℕ, Bool, true, false, ◌≢◌, ◌⊎◌, ◌↔◌, List, is_some, Some, None, MatchBool, Option, sym, refl, ◌∙◌, subst, MatchOption}
+use Rattle.std.proofs.Common.{◌≡◌, ℕ, Bool, ◌≢◌, ◌⊎◌, ◌↔◌, List, is_some, Some, None, MatchBool, Option, sym, ◌∙◌, subst, MatchOption}
 use Rattle.queue.specs.Queues.{Holds, Single, StandsAt, Replaced}
 use Rattle.queue.proofs.Members.{replaced_holds}
 use Rattle.grade_tests.proofs.better_row.Goals as goal

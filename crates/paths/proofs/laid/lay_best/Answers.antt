@@ -1,4 +1,4 @@
-use Rattle.std.proofs.Common.{◌≡◌, ◌+◌, ◌*◌, ◌≤◌, is_some, sym, refl, ap, ◌∙◌, arith}
+use Rattle.std.proofs.Common.{is_some, sym, refl, ap, ◌∙◌, arith}
 use Rattle.paths.proofs.laid.lay_best.Goals as goal
 
 pub lay-requires : goal.lay-requires

@@ -1,4 +1,4 @@
-use Rattle.std.proofs.Common.{◌≡◌, ℕ, ◌+◌, ◌-◌, ◌*◌, ◌<◌, ◌≤◌, length, set, sym, refl, ap, ◌∙◌, subst, ⊎_elim, zero-mul, arith}
+use Rattle.std.proofs.Common.{◌≡◌, ◌+◌, ◌-◌, length, set, sym, ap, ◌∙◌, subst, zero-mul, arith}
 use Rattle.book.specs.Lines.{lines}
 use Rattle.rowtable.specs.Tables.{row_at}
 use Rattle.paths.specs.Cells.{width, index, cell_at}

@@ -1,4 +1,4 @@
-use Rattle.std.proofs.Common.{ℕ, ◌+◌}
+use Rattle.std.proofs.Common.{◌+◌}
 use Rattle.paths.specs.Cells.{width, Layer, Via, SameFrom}
 use Rattle.paths.proofs.layer.bring_rows.Given as goal
 

@@ -1,4 +1,4 @@
-use Rattle.std.proofs.Common.{◌≡◌, ◌+◌, ◌<◌, ◌≤◌, sym, ◌∙◌, subst, arith}
+use Rattle.std.proofs.Common.{◌+◌, ◌∙◌, arith}
 use Rattle.paths.specs.Cells.{width, SameFrom}
 use Rattle.paths.proofs.Offers.{layer_same}
 use Rattle.paths.proofs.layer.fill_layer.Goals as goal

@@ -1,4 +1,4 @@
-use Rattle.std.proofs.Common.{◌≡◌, ◌+◌, ◌*◌, ◌<◌, ◌≤◌, length, sym, ap, ◌∙◌, subst, zero-mul, arith}
+use Rattle.std.proofs.Common.{◌≡◌, ◌+◌, length, sym, ap, ◌∙◌, subst, zero-mul, arith}
 use Rattle.book.specs.Lines.{lines}
 use Rattle.paths.specs.Cells.{width, index, cell_at}
 use Rattle.paths.specs.Layers.{BestSaid}

@@ -1,4 +1,4 @@
-use Rattle.std.proofs.Common.{◌≡◌, ◌+◌, ◌-◌, ◌*◌, ◌≤◌, length, sym, ap, ◌∙◌, subst, arith}
+use Rattle.std.proofs.Common.{◌≡◌, ◌-◌, ◌*◌, length, ap, arith}
 use Rattle.book.specs.Lines.{lines}
 use Rattle.paths.specs.Cells.{width}
 use Rattle.paths.proofs.Products.{layer_before, within, small, layered_last, layered_more}

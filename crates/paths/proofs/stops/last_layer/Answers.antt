@@ -1,8 +1,8 @@
-use Rattle.std.proofs.Common.{◌≡◌, ◌+◌, ◌<◌, length, set, sym, ◌∙◌, subst, ⊎_elim, arith}
+use Rattle.std.proofs.Common.{◌≡◌, ◌+◌, ◌<◌, length, set, sym, subst, ⊎_elim, arith}
 use Rattle.std.proofs.lemmas.List.{get_or-set_same, get_or-set_other}
 use Rattle.std.proofs.lemmas.Bool.{cases_lt}
 use Rattle.book.specs.Lines.{lines}
-use Rattle.paths.specs.Cells.{width, index, no_cell, cell_at, Says}
+use Rattle.paths.specs.Cells.{index, no_cell, cell_at, Says}
 use Rattle.paths.specs.Layers.{Stopping}
 use Rattle.paths.proofs.Indexes.{index_below}
 use Rattle.paths.proofs.stops.last_layer.Goals as goal

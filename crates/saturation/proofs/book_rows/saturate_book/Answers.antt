@@ -1,4 +1,4 @@
-use Rattle.std.proofs.Common.{◌≡◌, ◌≤◌, length, take, sym, refl, ap, ◌∙◌, subst, inl, inr, arith}
+use Rattle.std.proofs.Common.{refl, inl, inr, arith}
 use Rattle.std.proofs.lemmas.List.{length-take}
 use Rattle.saturation.proofs.Finishing.{phases_listed}
 use Rattle.saturation.proofs.Finished.{complete_finished}

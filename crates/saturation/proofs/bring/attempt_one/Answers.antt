@@ -1,6 +1,6 @@
 use Rattle.std.proofs.Common.{T, get_or, sym, ap, subst}
 use Rattle.book.specs.Lines.{lines}
-use Rattle.rows.specs.Rows.{order_row, wagon}
+use Rattle.rows.specs.Rows.{order_row}
 use Rattle.rowtable.specs.Tables.{state_of}
 use Rattle.saturation.specs.Work.{row_by_order, Covers, Placed, Brings, TriedOne}
 use Rattle.saturation.proofs.Growth.{went_none}

@@ -1,4 +1,4 @@
-use Rattle.std.proofs.Common.{◌≡◌, ◌-◌, ◌<◌, ◌≤◌, ◌⊎◌, length, sym, refl, ap, ◌∙◌, subst, inl, inr, ⊎_elim, arith}
+use Rattle.std.proofs.Common.{◌≡◌, ◌-◌, length, subst, inl, inr, ⊎_elim, arith}
 use borrow.Author.Rules.{scaled_Fits}
 use Rattle.grade.specs.Waits.{sooner}
 use Rattle.grade.specs.declared.waiting.Waiting.{Waiting}

@@ -1,11 +1,10 @@
-use Rattle.std.proofs.Common.{◌≡◌, ◌-◌, ◌<◌, ◌≤◌, Bool, true, false, T, ◌⊎◌, length, sym, refl, ap, ◌∙◌, subst, inl, inr, ⊎_elim, arith}
+use Rattle.std.proofs.Common.{◌≡◌, ◌-◌, ◌<◌, ◌≤◌, true, false, T, length, sym, refl, subst, ⊎_elim, arith}
 use borrow.Author.Rules.{scaled_Fits}
 use Rattle.std.proofs.lemmas.List.{get_or_read}
 use Rattle.grade.specs.Waits.{sooner}
 use Rattle.grade.specs.declared.waiting.Waiting.{Waiting}
 use Rattle.queue.specs.Queues.{Holds, Replaced}
-use Rattle.rowtable.specs.Tables.{row_of, blank_row, row_at}
-use Rattle.saturation.specs.Work.{Covers}
+use Rattle.rowtable.specs.Tables.{blank_row, row_at}
 use Rattle.saturation.proofs.Growth.{turned, sooner_better, old_held, went_better, went_none, key_row}
 use Rattle.saturation.proofs.offer.improve.Goals as goal
 

@@ -1,4 +1,4 @@
-use Rattle.std.proofs.Common.{◌<◌, ◌≤◌, length, arith}
+use Rattle.std.proofs.Common.{arith}
 use Rattle.saturation.proofs.Finishing.{clear_more, clear_all}
 use Rattle.saturation.proofs.saturate.clear.Goals as goal
 

@@ -1,9 +1,8 @@
-use Rattle.std.proofs.Common.{◌≡◌, ℕ, ◌+◌, ◌<◌, ◌≤◌, min, ◌⊎◌, length, sym, refl, ap, ◌∙◌, subst, ap₂, inl, inr, ⊎_elim, arith}
+use Rattle.std.proofs.Common.{◌≡◌, min, ◌∙◌, subst, ap₂, ⊎_elim, arith}
 use Rattle.deduction.specs.Counting.{Outnumber}
 use Rattle.deduction.specs.Derivations.{Derivation}
 use Rattle.rows.specs.Rows.{row_rules}
 use Rattle.book.specs.Lines.{lines}
-use Rattle.saturation.specs.Work.{unranked}
 use Rattle.saturation.specs.Complete.{Complete}
 use Rattle.saturation.proofs.Growth.{at_none}
 use Rattle.saturation.proofs.Finishing.{table_none, finished}

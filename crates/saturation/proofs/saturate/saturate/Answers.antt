@@ -1,4 +1,4 @@
-use Rattle.std.proofs.Common.{◌≡◌, ℕ, ◌<◌, ◌≤◌, min, length, sym, refl, ap, ◌∙◌, subst, ap₂}
+use Rattle.std.proofs.Common.{min, length, subst}
 use Rattle.deduction.specs.Counting.{Outnumber}
 use Rattle.deduction.specs.Derivations.{Derivation}
 use Rattle.rows.specs.Rows.{row_rules}

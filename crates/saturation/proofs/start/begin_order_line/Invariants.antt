@@ -1,7 +1,7 @@
-use Rattle.std.proofs.Common.{ℕ, ◌<◌, length}
+use Rattle.std.proofs.Common.{ℕ, ◌<◌}
 use Rattle.book.specs.Lines.{lines}
 use Rattle.saturation.specs.Work.{Went, Begins}
-use Rattle.saturation.specs.Start.{LinkBegun, WatchBegun, OrderBegun, RuleBegun}
+use Rattle.saturation.specs.Start.{OrderBegun}
 use Rattle.saturation.proofs.start.begin_order_line.Given as goal
 
 abbrev pub invariant-loop-place : goal.invariant-loop-place

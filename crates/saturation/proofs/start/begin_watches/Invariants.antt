@@ -1,7 +1,7 @@
 use Rattle.std.proofs.Common.{ℕ, ◌<◌, length}
 use Rattle.book.specs.Lines.{lines}
 use Rattle.saturation.specs.Work.{Went, Begins}
-use Rattle.saturation.specs.Start.{LinkBegun, WatchBegun, OrderBegun, RuleBegun}
+use Rattle.saturation.specs.Start.{WatchBegun}
 use Rattle.saturation.proofs.start.begin_watches.Given as goal
 
 abbrev pub invariant-loop-k : goal.invariant-loop-k

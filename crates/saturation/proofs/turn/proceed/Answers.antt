@@ -1,4 +1,4 @@
-use Rattle.std.proofs.Common.{◌≡◌, ◌+◌, ◌<◌, ◌≤◌, min, length, sym, refl, ap, ◌∙◌, subst, ap₂, inl, inr, arith}
+use Rattle.std.proofs.Common.{min, refl, ◌∙◌, subst, ap₂, inl, inr, arith}
 use Rattle.deduction.specs.Counting.{Outnumber}
 use Rattle.deduction.specs.Derivations.{Derivation}
 use Rattle.rows.specs.Rows.{row_rules}

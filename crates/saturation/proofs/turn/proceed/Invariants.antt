@@ -1,4 +1,4 @@
-use Rattle.std.proofs.Common.{◌≡◌, ℕ, ◌+◌, length}
+use Rattle.std.proofs.Common.{◌≡◌, ◌+◌, length}
 use Rattle.book.specs.Lines.{lines}
 use Rattle.saturation.specs.Work.{Worked}
 use Rattle.saturation.proofs.turn.proceed.Given as goal

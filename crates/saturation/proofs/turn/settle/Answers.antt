@@ -1,4 +1,4 @@
-use Rattle.std.proofs.Common.{◌≡◌, ◌-◌, ◌<◌, ◌≤◌, ◌⊎◌, length, sym, refl, ap, ◌∙◌, subst, inl, inr, ⊎_elim, arith, rules}
+use Rattle.std.proofs.Common.{◌≡◌, ◌-◌, ◌<◌, length, ap, subst, ⊎_elim, arith, rules}
 use Rattle.std.proofs.lemmas.List.{get_or_read}
 use Rattle.grade.specs.Waits.{sooner}
 use Rattle.queue.specs.Queues.{Taken}

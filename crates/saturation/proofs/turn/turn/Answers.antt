@@ -1,8 +1,6 @@
-use Rattle.std.proofs.Common.{◌≡◌, ◌+◌, ◌<◌, ◌≤◌, length, sym, refl, ap, ◌∙◌, subst, arith, rules}
+use Rattle.std.proofs.Common.{◌≡◌, ◌<◌, length, ◌∙◌, arith, rules}
 use Rattle.std.proofs.lemmas.List.{get_or_read}
 use Rattle.rowtable.specs.Tables.{blank_row, row_at}
-use Rattle.saturation.specs.Work.{ranked_as}
-use Rattle.saturation.proofs.Growth.{at_none}
 use Rattle.saturation.proofs.Turns.{last_now, turn_ends}
 use Rattle.saturation.proofs.turn.turn.Goals as goal
 

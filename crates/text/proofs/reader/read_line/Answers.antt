@@ -1,4 +1,4 @@
-use Rattle.std.proofs.Common.{◌≡◌, sym, ◌∙◌, subst}
+use Rattle.std.proofs.Common.{sym, ◌∙◌, subst}
 use Rattle.text.specs.Meaning.{Says}
 use Rattle.text.proofs.Right.{reads_right}
 use Rattle.text.proofs.reader.read_line.Goals as goal

@@ -1,4 +1,4 @@
-use Rattle.std.proofs.Common.{◌++◌, arith}
+use Rattle.std.proofs.Common.{arith}
 use Rattle.text.proofs.Laid.{put_none, put_member, put_members, skip_member}
 use Rattle.text.proofs.writer.put_phase.Goals as goal
 use Rattle.text.proofs.writer.put_phase.Goals.{then-phase-n-eq1, else-phase-n-eq1}

@@ -1,4 +1,4 @@
-use Rattle.std.proofs.Common.{◌≡◌, ◌≤◌, sym, arith}
+use Rattle.std.proofs.Common.{sym, arith}
 use Rattle.std.proofs.lemmas.List.{get_or_past}
 use Rattle.book.specs.declared.rule.Rule.TheVariants.{Free}
 use Rattle.unfolding.proofs.lookup.rule_under.Goals as goal

@@ -1,4 +1,4 @@
-use Rattle.std.proofs.Common.{◌≡◌, ℕ, ◌+◌, ◌-◌, ◌<◌, ◌≤◌, ◌++◌, length, get_or, sym, refl, ◌∙◌, subst, arith, length-append}
+use Rattle.std.proofs.Common.{◌-◌, ◌≤◌, length, get_or, sym, refl, ◌∙◌, subst, arith, length-append}
 use Rattle.book.specs.Lines.{lines}
 use Rattle.phases.proofs.Naming.{numbers_stand_once}
 use Rattle.unfolding.specs.Runs.{parts}

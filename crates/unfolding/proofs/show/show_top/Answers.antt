@@ -1,4 +1,4 @@
-use Rattle.std.proofs.Common.{◌≡◌, ℕ, ◌-◌, ◌<◌, ◌≤◌, length, get_or, sym, refl, ap, ◌∙◌, subst, arith}
+use Rattle.std.proofs.Common.{◌≡◌, ◌-◌, ◌<◌, length, get_or, sym, refl, ap, ◌∙◌, subst, arith}
 use Rattle.book.proofs.Standing.{order_stands, notice_stands}
 use Rattle.book.specs.declared.rule.Rule.TheVariants as rule
 use Rattle.rowtable.specs.declared.row.Reason.TheVariants as reason

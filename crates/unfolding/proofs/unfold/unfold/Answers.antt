@@ -1,12 +1,11 @@
-use Rattle.std.proofs.Common.{◌≡◌, ℕ, ◌-◌, ◌<◌, ◌≤◌, List, [], ◌∷◌, ◌++◌, length, get_or, Some, None, Ok, Err, Option, Result, sym, refl, ap, ◌∙◌, subst, inl, inr, arith}
+use Rattle.std.proofs.Common.{◌≡◌, ◌-◌, ◌<◌, ◌∷◌, ◌++◌, get_or, Some, None, Ok, Err, sym, refl, ap, ◌∙◌, subst, inr, arith}
 use Rattle.std.proofs.lemmas.List.{append-nil}
 use Rattle.std.specs.List.{AllByRecursion as All}
 use Rattle.book.specs.Lines.{lines}
-use Rattle.model.specs.Moves.{Position, Move}
 use Rattle.phases.proofs.Naming.{numbers_stand_once}
 use Rattle.unfolding.specs.Runs.{LineRow}
-use Rattle.unfolding.specs.Rest.{stack, stage_of, Rest, Advances}
-use Rattle.unfolding.specs.Shows.{Topmost, Unfolded}
+use Rattle.unfolding.specs.Rest.{stack}
+use Rattle.unfolding.specs.Shows.{Unfolded}
 use Rattle.unfolding.proofs.Stacks.{stack_top}
 use Rattle.unfolding.proofs.Showing.{only_number}
 use Rattle.unfolding.proofs.Advancing.{advances_from}

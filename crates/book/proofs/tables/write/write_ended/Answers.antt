@@ -1,4 +1,4 @@
-use Rattle.std.proofs.Common.{set, sym, ap, ◌∙◌, arith}
+use Rattle.std.proofs.Common.{set, ap, ◌∙◌, arith}
 use Rattle.text.specs.Forms.{text}
 use Rattle.book.proofs.Written.{ended_length, one_ended}
 use Rattle.book.proofs.tables.write.write_ended.Goals as goal

@@ -1,4 +1,4 @@
-use Rattle.std.proofs.Common.{◌≡◌, ◌+◌, cond, ◌∷◌, Err, sym, refl, ap, ◌∙◌}
+use Rattle.std.proofs.Common.{◌+◌, cond, ◌∷◌, Err, sym, ap, ◌∙◌}
 use Rattle.std.proofs.lemmas.Result.{err_from_is_err_and}
 use Rattle.text.specs.Reading.{take_numbers}
 use Rattle.text.proofs.line_reader.LineReader.another.Goals as goal

@@ -1,4 +1,4 @@
-use Rattle.std.proofs.Common.{◌≡◌, ltb, sym, refl, ap, ◌∙◌, arith}
+use Rattle.std.proofs.Common.{ltb, ◌∙◌, arith}
 use Rattle.text.specs.Reading.{noted}
 use Rattle.text.proofs.Readers.{number_off}
 use Rattle.text.proofs.line_reader.LineReader.bounded.Goals as goal

@@ -1,4 +1,4 @@
-use Rattle.std.proofs.Common.{◌≡◌, ℕ, ◌+◌, ◌-◌, ◌*◌, List, [], ◌∷◌, get_or, sym, refl, ◌∙◌, arith, rules}
+use Rattle.std.proofs.Common.{ℕ, ◌+◌, ◌-◌, ◌*◌, List, [], ◌∷◌, get_or, sym, refl, ◌∙◌, arith, rules}
 use Rattle.text.proofs.Steps.{lead, digits_more}
 use Rattle.text.proofs.Readers.{stopped}
 use Rattle.text.proofs.line_reader.LineReader.digits.Goals as goal

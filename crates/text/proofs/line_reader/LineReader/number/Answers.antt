@@ -1,4 +1,3 @@
-use Rattle.std.proofs.Common.{rules}
 use Rattle.std.proofs.lemmas.Result.{MatchResult-weaker}
 use Rattle.text.specs.Reading.{scan}
 use Rattle.text.proofs.line_reader.LineReader.number.Goals as goal
