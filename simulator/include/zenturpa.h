@@ -1,6 +1,6 @@
 /* One move of a lane of wagons, made by a proved library.
  *
- * Link target/staticlib/libmoves.a, which `rt staticlib moves` writes, and lib/librattle_c.a of the toolchain beside it.
+ * Link target/staticlib/libmoves.a, which `simulator/test` builds from the crate `moves_c`.
  * docs/MOVES.md says what a move asks and does, and lists the refusals.
  */
 #ifndef ZENTURPA_H

@@ -2,7 +2,7 @@
 use Rattle.std.proofs.Common.{◌≡◌, ℕ, zero, suc, ◌+◌, ◌<◌, ◌≤◌, true, false, cond, ◌||◌, eqb, ltb, ◌⊎◌, List, [], ◌∷◌, ◌++◌, map, length, get_or, sym, refl, ap, ◌∙◌, subst, inl, inr, ⊎_elim, arith}
 use mathlib.Core.Logic.{∥∥₁_elim}
 use native.Mathlib.Bridge.{le_prop}
-use Rattle.std.specs.List.{ContainsAt as Has, AllByRecursion as All}
+use Rattle.std.specs.List.{ContainsAt as Has, AllByRecursion}
 use Rattle.std.proofs.lemmas.Bool.{ltb-true, ltb-false, lt-ltb, le-ltb, eqb-true, eqb-false, eq-eqb, ne_eqb, cases_lt, cases_eq, cond-true, cond-false, cond_both, or_parts, or_from, or_cases, or_left, or_right, false≢true}
 use Rattle.std.proofs.ByRecursion.{All-weaker, all-has, All-append, All-map, All-get_or}
 use Rattle.book.specs.Order.{Ascending, among, put}
@@ -46,7 +46,7 @@ has_cases {X} y xs x h = at h.0 h.1 h.2
     at zero lt is = inl (is x)
     at (suc k) lt is = inr (k, omega arith, is)
 
-all_prop : {X : Type 0} (P : X → Type 0) → ((x : X) → IsProp (P x)) → (xs : List X) → IsProp (All P xs)
+all_prop : {X : Type 0} (P : X → Type 0) → ((x : X) → IsProp (P x)) → (xs : List X) → IsProp (AllByRecursion P xs)
 all_prop P one [] p q = refl
 all_prop P one (x ∷ xs) p q = λ i. (one x p.0 q.0 i, all_prop P one xs p.1 q.1 i)
 
@@ -56,7 +56,7 @@ ascending_prop rank (x ∷ xs) p q =
     λ i. (all_prop (λ y. rank x < rank y) (λ y. le_prop) xs p.0 q.0 i, ascending_prop rank xs p.1 q.1 i)
 
 -- out of a ghost field
-pub all_told : {X : Type 0} (P : X → Type 0) → ((x : X) → IsProp (P x)) → (xs : List X) → ∥ All P xs ∥₁ → All P xs
+pub all_told : {X : Type 0} (P : X → Type 0) → ((x : X) → IsProp (P x)) → (xs : List X) → ∥ AllByRecursion P xs ∥₁ → AllByRecursion P xs
 all_told P one xs h = ∥∥₁_elim h (all_prop P one xs) (λ p. p)
 
 pub ascending_told : {X : Type 0} (rank : X → ℕ) (xs : List X) → ∥ Ascending rank xs ∥₁ → Ascending rank xs
@@ -65,10 +65,10 @@ ascending_told rank xs h = ∥∥₁_elim h (ascending_prop rank xs) (λ p. p)
 module _ {X : Type 0} (rank : X → ℕ) where
   -- ---- one more
 
-  pub put_all : (P : X → Type 0) (x : X) (xs : List X) → P x → All P xs → All P (put rank x xs)
+  pub put_all : (P : X → Type 0) (x : X) (xs : List X) → P x → AllByRecursion P xs → AllByRecursion P (put rank x xs)
   put_all P x [] p h = (p, tt)
   put_all P x (y ∷ ys) p h =
-      cond_both (ltb (rank y) (rank x)) (y ∷ put rank x ys) (x ∷ (y ∷ ys)) (All P) (λ _. (h.0, put_all P x ys p h.1)) (λ _. (p, h))
+      cond_both (ltb (rank y) (rank x)) (y ∷ put rank x ys) (x ∷ (y ∷ ys)) (AllByRecursion P) (λ _. (h.0, put_all P x ys p h.1)) (λ _. (p, h))
 
   pub put_ascending : (x : X) (xs : List X) → Ascending rank xs → among rank (rank x) xs ≡ false → Ascending rank (put rank x xs)
   put_ascending x [] up new = (tt, tt)
@@ -101,19 +101,19 @@ module _ {X : Type 0} (rank : X → ℕ) where
 
   -- ---- between lower and higher ranks
 
-  pub put_low : (x : X) (xs ys : List X) → All (λ y. rank y < rank x) xs → put rank x (xs ++ ys) ≡ xs ++ put rank x ys
+  pub put_low : (x : X) (xs ys : List X) → AllByRecursion (λ y. rank y < rank x) xs → put rank x (xs ++ ys) ≡ xs ++ put rank x ys
   put_low x [] ys h = refl
   put_low x (y ∷ xs) ys h =
       cond-true (ltb (rank y) (rank x)) (y ∷ put rank x (xs ++ ys)) (x ∷ (y ∷ xs ++ ys)) (lt-ltb (rank y) (rank x) h.0)
       ∙ ap (λ l. y ∷ l) (put_low x xs ys h.1)
 
-  pub put_front : (x : X) (ys : List X) → All (λ y. rank x < rank y) ys → put rank x ys ≡ x ∷ ys
+  pub put_front : (x : X) (ys : List X) → AllByRecursion (λ y. rank x < rank y) ys → put rank x ys ≡ x ∷ ys
   put_front x [] h = refl
   put_front x (y ∷ ys) h =
       let lt = h.0 in
       cond-false (ltb (rank y) (rank x)) (y ∷ put rank x ys) (x ∷ (y ∷ ys)) (le-ltb (rank y) (rank x) (omega arith))
 
-  pub put_high : (x : X) (xs ys : List X) → All (λ y. rank x < rank y) ys → put rank x (xs ++ ys) ≡ put rank x xs ++ ys
+  pub put_high : (x : X) (xs ys : List X) → AllByRecursion (λ y. rank x < rank y) ys → put rank x (xs ++ ys) ≡ put rank x xs ++ ys
   put_high x [] ys h = put_front x ys h
   put_high x (y ∷ xs) ys h =
       let more = put_high x xs ys h in
@@ -122,7 +122,7 @@ module _ {X : Type 0} (rank : X → ℕ) where
         | false ↦ refl
       ]
 
-  pub ascending_append : (m : ℕ) (xs ys : List X) → Ascending rank xs → Ascending rank ys → All (λ x. rank x < m) xs → All (λ y. m ≤ rank y) ys → Ascending rank (xs ++ ys)
+  pub ascending_append : (m : ℕ) (xs ys : List X) → Ascending rank xs → Ascending rank ys → AllByRecursion (λ x. rank x < m) xs → AllByRecursion (λ y. m ≤ rank y) ys → Ascending rank (xs ++ ys)
   ascending_append m [] ys up vp low high = vp
   ascending_append m (x ∷ xs) ys up vp low high =
       let below = low.0 in (
@@ -138,7 +138,7 @@ module _ {X : Type 0} (rank : X → ℕ) where
   ascending_at (x ∷ xs) (suc i) (suc j) d up lt within = ascending_at xs i j d up.1 (omega arith) (omega arith)
 
   -- a list falls in one way into ranks below m and others
-  pub parted : (m : ℕ) (xs ys us vs : List X) → All (λ x. rank x < m) xs → All (λ x. rank x < m) us → All (λ y. m ≤ rank y) ys → All (λ y. m ≤ rank y) vs
+  pub parted : (m : ℕ) (xs ys us vs : List X) → AllByRecursion (λ x. rank x < m) xs → AllByRecursion (λ x. rank x < m) us → AllByRecursion (λ y. m ≤ rank y) ys → AllByRecursion (λ y. m ≤ rank y) vs
       → xs ++ ys ≡ us ++ vs → (xs ≡ us) × (ys ≡ vs)
   parted m [] ys [] vs a b c d e = (refl, e)
   parted m [] [] (u ∷ us) vs a b c d e = absurd (no_cons _ _ (sym e))
@@ -157,7 +157,7 @@ module _ {X : Type 0} (rank : X → ℕ) where
       let more = among_append r xs ys in
       elim (eqb (rank x) r) as (λ t. (t || among rank r (xs ++ ys)) ≡ ((t || among rank r xs) || among rank r ys)) [ true ↦ refl | false ↦ more ]
 
-  pub among_none : (r : ℕ) (xs : List X) → All (λ x. rank x ≡ r → ⊥) xs → among rank r xs ≡ false
+  pub among_none : (r : ℕ) (xs : List X) → AllByRecursion (λ x. rank x ≡ r → ⊥) xs → among rank r xs ≡ false
   among_none r [] h = refl
   among_none r (x ∷ xs) h = or_from (eqb (rank x) r) (among rank r xs) (ne_eqb (rank x) r h.0) (among_none r xs h.1)
 

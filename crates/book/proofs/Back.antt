@@ -1,6 +1,6 @@
 -- The text of a book, cut into lines and entered, gives the book's lines again. Assumes nothing.
 use Rattle.std.proofs.Common.{◌≡◌, ℕ, ◌+◌, ◌<◌, ◌≤◌, false, eqb, List, [], ◌∷◌, ◌++◌, map, length, Ok, filter, sym, refl, ap, ◌∙◌, subst, append_assoc, append-nil, arith}
-use Rattle.std.specs.List.{flat_map, AllByRecursion as All}
+use Rattle.std.specs.List.{flat_map, AllByRecursion}
 use Rattle.std.proofs.lemmas.List.{length-append}
 use Rattle.std.proofs.lemmas.Bool.{cond-false, ne_eqb, lt-leb}
 use Rattle.std.proofs.lemmas.List.Elements.{filter-append}
@@ -24,12 +24,12 @@ use Rattle.book.proofs.Joining.{went_in}
 
 -- ---- cutting
 
-cut_line : (s t : List ℕ) → All (λ b. b ≡ 10 → ⊥) s → split (s ++ 10 ∷ t) ≡ s ∷ split t
+cut_line : (s t : List ℕ) → AllByRecursion (λ b. b ≡ 10 → ⊥) s → split (s ++ 10 ∷ t) ≡ s ∷ split t
 cut_line [] t h = refl
 cut_line (b ∷ s) t h =
     cond-false (eqb b 10) ([] ∷ split (s ++ 10 ∷ t)) (before_first b (split (s ++ 10 ∷ t))) (ne_eqb b 10 h.0) ∙ ap (before_first b) (cut_line s t h.1)
 
-cut_book : (ls : List Line) → All Within ls → split (book_text ls) ≡ map text ls
+cut_book : (ls : List Line) → AllByRecursion Within ls → split (book_text ls) ≡ map text ls
 unfolding book_text
 cut_book [] h = refl
 cut_book (l ∷ ls) h =
@@ -53,14 +53,14 @@ not_full xs (Link k) ys h = let a = many_before links xs (Link k ∷ ys) in let 
 not_full xs (End t) ys h = refl
 not_full xs (Bare p) ys h = refl
 
-lower_before : (xs : List Line) (l : Line) (ys : List Line) → Sorted (xs ++ l ∷ ys) → All (λ x. rank x < rank l) xs
+lower_before : (xs : List Line) (l : Line) (ys : List Line) → Sorted (xs ++ l ∷ ys) → AllByRecursion (λ x. rank x < rank l) xs
 lower_before [] l ys up = tt
 lower_before (x ∷ xs) l ys up = (behind up.0, lower_before xs l ys up.1)
   where
-    behind : All (λ y. rank x < rank y) (xs ++ l ∷ ys) → rank x < rank l
+    behind : AllByRecursion (λ y. rank x < rank y) (xs ++ l ∷ ys) → rank x < rank l
     behind h = at xs h
       where
-        at : (zs : List Line) → All (λ y. rank x < rank y) (zs ++ l ∷ ys) → rank x < rank l
+        at : (zs : List Line) → AllByRecursion (λ y. rank x < rank y) (zs ++ l ∷ ys) → rank x < rank l
         at [] g = g.0
         at (z ∷ zs) g = at zs g.1
 
@@ -71,7 +71,7 @@ entered_next xs l ys w up room =
     went_in xs (text l) l ((reads_right (text l)).1 (Ok l) (w, refl)) (among_none rank (rank l) xs (All-weaker (λ x. rank x < rank l) (λ x. rank x ≡ rank l → ⊥) (λ x lt e. omega arith) xs low)) (not_full xs l ys room)
     ∙ ap Ok (ap (put rank l) (sym (append-nil xs)) ∙ put_low rank l xs [] low)
 
-entered_rest : (xs ys : List Line) → All Within ys → Sorted (xs ++ ys) → Roomy (xs ++ ys) → entered_all xs (map text ys) ≡ Ok (xs ++ ys)
+entered_rest : (xs ys : List Line) → AllByRecursion Within ys → Sorted (xs ++ ys) → Roomy (xs ++ ys) → entered_all xs (map text ys) ≡ Ok (xs ++ ys)
 entered_rest xs [] w up room = ap Ok (sym (append-nil xs))
 entered_rest xs (l ∷ ys) w up room =
     let e = append_assoc xs (l ∷ []) ys in

@@ -1,6 +1,6 @@
 -- Two lines have one rank just where they are the same, or orders or notices with one number. Assumes nothing.
 use Rattle.std.proofs.Common.{◌≡◌, ℕ, ◌+◌, ◌-◌, ◌/◌, ◌%◌, ◌<◌, ◌≤◌, true, cond, ltb, List, get_or, Some, None, Option, sym, refl, ap, ◌∙◌, subst, inl, inr, ⊎_elim, arith}
-use Rattle.std.specs.List.{AllByRecursion as All}
+use Rattle.std.specs.List.{AllByRecursion}
 use Rattle.std.proofs.lemmas.Bool.{cond-true, cond-false, lt-ltb, le-ltb, cases_lt, cases_order}
 use Rattle.std.proofs.ByRecursion.{all-has}
 use Rattle.grade.specs.declared.upto.UpTo.{UpTo}
@@ -128,7 +128,7 @@ rank_bars x l v w e =
     (λ le. inl (sym (told x v (omega arith)) ∙ ap back e ∙ told l w le))
     (cases_lt (rank l) 64)
 
-pub clash_right : (ls : List Line) (l : Line) → All Within ls → Within l → clashes ls l ≡ true → Clash ls l
+pub clash_right : (ls : List Line) (l : Line) → AllByRecursion Within ls → Within l → clashes ls l ≡ true → Clash ls l
 clash_right ls l all w e = let h = among_has rank (rank l) ls e in (h.0, (h.1.0, rank_bars h.0 l (all-has Within ls h.0 all h.1.0) w h.1.1))
 
 pub clash_only : (ls : List Line) (l : Line) → Clash ls l → clashes ls l ≡ true

@@ -2,7 +2,7 @@
 use Rattle.std.proofs.Common.{◌≡◌, ℕ, ◌^◌, ◌<◌, ◌≤◌, Bool, true, false, ltb, List, [], ◌∷◌, ◌++◌, map, length, take, sym, refl, ◌∙◌, inl, inr, arith}
 use native.Mathlib.Bridge.{le_prop}
 use base.Stored.{Coded-set, coded_ℕ}
-use Rattle.std.specs.List.{flat_map, AllByRecursion as All}
+use Rattle.std.specs.List.{flat_map, AllByRecursion}
 use Rattle.std.proofs.lemmas.Bool.{cond-false, le-ltb}
 use Rattle.std.proofs.ByRecursion.{All-weaker, All-map, All-take}
 use Rattle.text.specs.declared.line.Line.{Line}
@@ -58,14 +58,14 @@ bares_seated b = let long = b.marked.1 in along_weaker (λ i _. i < 16) (λ m x.
 
 -- ---- the lines of a kind
 
-each : {X : Type 0} (k : Kind) (f : X → Line) → ((x : X) → Of k (f x)) → (xs : List X) → All (Of k) (map f xs)
+each : {X : Type 0} (k : Kind) (f : X → Line) → ((x : X) → Of k (f x)) → (xs : List X) → AllByRecursion (Of k) (map f xs)
 each k f h [] = tt
 each k f h (x ∷ xs) = (h x, each k f h xs)
 
-pub phases : (b : Book) → All (λ F. F < 2 ^ 64) b.opens
+pub phases : (b : Book) → AllByRecursion (λ F. F < 2 ^ 64) b.opens
 phases b = all_told (λ F. F < 2 ^ 64) (λ F. le_prop) b.opens b.phases
 
-pub of_kind : (b : Book) (k : Kind) → All (Of k) (lines_of b k)
+pub of_kind : (b : Book) (k : Kind) → AllByRecursion (Of k) (lines_of b k)
 of_kind b rules = seats_of rule_line rules 0 b.rules (rules_seated b)
 of_kind b opens =
     All-map (Of opens) line.Open (take b.opening b.opens)
@@ -89,7 +89,7 @@ pub sorted_lines : (b : Book) → Sorted (lines b)
 unfolding lines
 sorted_lines b = sorted (lines_of b) (of_kind b) (up_kind b)
 
-pub within_lines : (b : Book) → All Within (lines b)
+pub within_lines : (b : Book) → AllByRecursion Within (lines b)
 unfolding lines
 within_lines b = all_within (lines_of b) (of_kind b)
 
@@ -101,12 +101,12 @@ pub many_lines : (b : Book) (k : Kind) → many k (lines b) ≡ length (lines_of
 unfolding lines
 many_lines b k = many_kind (lines_of b) (of_kind b) k
 
-same_joined : (b c : Book) (js : List Kind) → All (λ j. lines_of c j ≡ lines_of b j) js → flat_map (lines_of c) js ≡ flat_map (lines_of b) js
+same_joined : (b c : Book) (js : List Kind) → AllByRecursion (λ j. lines_of c j ≡ lines_of b j) js → flat_map (lines_of c) js ≡ flat_map (lines_of b) js
 same_joined b c [] h = refl
 same_joined b c (j ∷ js) h = λ i. h.0 i ++ same_joined b c js h.1 i
 
 -- a line that is put among its kind, with no other change, is put among all lines
-pub put_lines : (b c : Book) (l : Line) → Within l → All (λ j. lines_of c j ≡ lines_of b j) (before (kind l)) → All (λ j. lines_of c j ≡ lines_of b j) (behind (kind l))
+pub put_lines : (b c : Book) (l : Line) → Within l → AllByRecursion (λ j. lines_of c j ≡ lines_of b j) (before (kind l)) → AllByRecursion (λ j. lines_of c j ≡ lines_of b j) (behind (kind l))
     → lines_of c (kind l) ≡ put rank l (lines_of b (kind l)) → lines c ≡ put rank l (lines b)
 unfolding lines
 put_lines b c l w front back mid =

@@ -1,6 +1,6 @@
 -- Lines of one kind after another: each kind has ranks of its own. Assumes nothing.
 use Rattle.std.proofs.Common.{◌≡◌, ℕ, ◌<◌, ◌≤◌, Bool, true, false, ◌||◌, List, [], ◌∷◌, ◌++◌, length, filter, sym, refl, ap, ◌∙◌, subst, append_assoc, append-nil, arith}
-use Rattle.std.specs.List.{flat_map, AllByRecursion as All}
+use Rattle.std.specs.List.{flat_map, AllByRecursion}
 use Rattle.std.proofs.lemmas.Bool.{eq-eqb, ne_eqb, cond-true, cond-false}
 use Rattle.std.proofs.lemmas.List.Elements.{filter-append}
 use Rattle.std.proofs.ByRecursion.{All-weaker, All-append}
@@ -66,7 +66,7 @@ around links = refl
 around ends = refl
 around bares = refl
 
-stops_before : (k : Kind) → All (λ j. stop j ≤ start k) (before k)
+stops_before : (k : Kind) → AllByRecursion (λ j. stop j ≤ start k) (before k)
 stops_before rules = tt
 stops_before opens = omega arith
 stops_before watches = omega arith
@@ -74,7 +74,7 @@ stops_before links = omega arith
 stops_before ends = omega arith
 stops_before bares = omega arith
 
-starts_behind : (k : Kind) → All (λ j. stop k ≤ start j) (behind k)
+starts_behind : (k : Kind) → AllByRecursion (λ j. stop k ≤ start j) (behind k)
 starts_behind rules = omega arith
 starts_behind opens = omega arith
 starts_behind watches = omega arith
@@ -94,11 +94,11 @@ span_some links = omega arith
 span_some ends = omega arith
 span_some bares = omega arith
 
-kept_none : (p : Line → Bool) (ls : List Line) → All (λ l. p l ≡ false) ls → filter p ls ≡ []
+kept_none : (p : Line → Bool) (ls : List Line) → AllByRecursion (λ l. p l ≡ false) ls → filter p ls ≡ []
 kept_none p [] h = refl
 kept_none p (l ∷ ls) h = cond-false (p l) (l ∷ filter p ls) (filter p ls) h.0 ∙ kept_none p ls h.1
 
-kept_all : (p : Line → Bool) (ls : List Line) → All (λ l. p l ≡ true) ls → filter p ls ≡ ls
+kept_all : (p : Line → Bool) (ls : List Line) → AllByRecursion (λ l. p l ≡ true) ls → filter p ls ≡ ls
 kept_all p [] h = refl
 kept_all p (l ∷ ls) h = cond-true (p l) (l ∷ filter p ls) (filter p ls) h.0 ∙ ap (λ r. l ∷ r) (kept_all p ls h.1)
 
@@ -112,18 +112,18 @@ module _ (of : Kind → List Line) where
   pub framed : (k : Kind) → flat_map of kinds ≡ flat_map of (before k) ++ (of k ++ flat_map of (behind k))
   framed k = ap (flat_map of) (around k) ∙ joined_append of (before k) (k ∷ behind k)
 
-  module _ (each : (k : Kind) → All (Of k) (of k)) where
-    all_joined : (P : Line → Type 0) (js : List Kind) → All (λ j. (l : Line) → Of j l → P l) js → All P (flat_map of js)
+  module _ (each : (k : Kind) → AllByRecursion (Of k) (of k)) where
+    all_joined : (P : Line → Type 0) (js : List Kind) → AllByRecursion (λ j. (l : Line) → Of j l → P l) js → AllByRecursion P (flat_map of js)
     all_joined P [] h = tt
     all_joined P (j ∷ js) h = All-append P (of j) (flat_map of js) (All-weaker (Of j) P h.0 (of j) (each j)) (all_joined P js h.1)
 
-    pub all_within : All Within (flat_map of kinds)
+    pub all_within : AllByRecursion Within (flat_map of kinds)
     all_within = let own : (j : Kind) (l : Line) → Of j l → Within l = λ j l o. o.1 in all_joined Within kinds (own rules, (own opens, (own watches, (own links, (own ends, (own bares, tt))))))
 
-    pub front_low : (k : Kind) → All (λ l. rank l < start k) (flat_map of (before k))
+    pub front_low : (k : Kind) → AllByRecursion (λ l. rank l < start k) (flat_map of (before k))
     front_low k = all_joined (λ l. rank l < start k) (before k) (All-weaker (λ j. stop j ≤ start k) (λ j. (l : Line) → Of j l → rank l < start k) (λ j le l o. let lt = of_high j l o in omega arith) (before k) (stops_before k))
 
-    pub back_high : (k : Kind) → All (λ l. stop k ≤ rank l) (flat_map of (behind k))
+    pub back_high : (k : Kind) → AllByRecursion (λ l. stop k ≤ rank l) (flat_map of (behind k))
     back_high k = all_joined (λ l. stop k ≤ rank l) (behind k) (All-weaker (λ j. stop k ≤ start j) (λ j. (l : Line) → Of j l → stop k ≤ rank l) (λ j le l o. let lt = of_low j l o in omega arith) (behind k) (starts_behind k))
 
     -- each kind of these begins where the one before has ended
@@ -131,7 +131,7 @@ module _ (of : Kind → List Line) where
     Follow m [] = Unit {0}
     Follow m (j ∷ js) = (m ≤ start j) × Follow (stop j) js
 
-    all_follow : (m : ℕ) (js : List Kind) → Follow m js → All (λ l. m ≤ rank l) (flat_map of js)
+    all_follow : (m : ℕ) (js : List Kind) → Follow m js → AllByRecursion (λ l. m ≤ rank l) (flat_map of js)
     all_follow m [] h = tt
     all_follow m (j ∷ js) h =
         let le = h.0 in

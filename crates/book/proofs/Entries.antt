@@ -2,7 +2,7 @@
 use Rattle.std.proofs.Common.{◌≡◌, ℕ, ◌+◌, ◌-◌, ◌<◌, Bool, true, false, cond, leb, List, [], ◌∷◌, map, length, get_or, take, drop, set, replicate, sym, refl, ap, ◌∙◌, subst, arith}
 use Rattle.std.proofs.lemmas.List.{length-map, length-take-le, take-append-drop, drop-drop, drop-replicate}
 use Rattle.std.proofs.lemmas.Bool.{leb-false, true≢false}
-use Rattle.std.specs.List.{AllByRecursion as All}
+use Rattle.std.specs.List.{AllByRecursion}
 use Rattle.std.proofs.ByRecursion.{All-append, All-take, All-drop}
 use Rattle.grade.specs.ValuesLemmas.{same_upto}
 use Rattle.grade.specs.declared.upto.UpTo.{UpTo}
@@ -79,10 +79,10 @@ module _ {b : Book} {k : Kind} {X : Type 0} (t : Rows b k X) where
         )
 
 -- what holds of each row, and of x, holds of each row after x was placed among the first n
-pub all_placed : {X : Type 0} (low : X → ℕ) (P : X → Type 0) (rows after : List X) (n : ℕ) (x : X) → P x → All P rows → take (n + 1) after ≡ put low x (take n rows) → drop (n + 1) after ≡ drop (n + 1) rows → All P after
+pub all_placed : {X : Type 0} (low : X → ℕ) (P : X → Type 0) (rows after : List X) (n : ℕ) (x : X) → P x → AllByRecursion P rows → take (n + 1) after ≡ put low x (take n rows) → drop (n + 1) after ≡ drop (n + 1) rows → AllByRecursion P after
 all_placed low P rows after n x p h used rest =
-    subst (All P) (take-append-drop (n + 1) after)
-    (All-append P (take (n + 1) after) (drop (n + 1) after) (subst (All P) (sym used) (put_all low P x (take n rows) p (All-take P n rows h))) (subst (All P) (sym rest) (All-drop P (n + 1) rows h)))
+    subst (AllByRecursion P) (take-append-drop (n + 1) after)
+    (All-append P (take (n + 1) after) (drop (n + 1) after) (subst (AllByRecursion P) (sym used) (put_all low P x (take n rows) p (All-take P n rows h))) (subst (AllByRecursion P) (sym rest) (All-drop P (n + 1) rows h)))
 
 -- a place that goes by number
 seat_clash : {X : Type 0} (at : ℕ → X → List Line) (k : Kind) (b : Book) (xs : List X) (d : X) → lines_of b k ≡ by_number at 0 xs → Seated at k 0 xs

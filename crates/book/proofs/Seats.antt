@@ -1,7 +1,7 @@
 -- Tables in which places go by number: at most one line stands at a place. Assumes nothing.
 use Rattle.std.proofs.Common.{◌≡◌, ℕ, zero, suc, ◌+◌, ◌<◌, ◌≤◌, false, ◌||◌, ◌⊎◌, List, [], ◌∷◌, ◌++◌, length, get_or, set, replicate, sym, refl, ap, ◌∙◌, subst, ⊎_elim, arith}
 use mathlib.Core.Logic.{∥∥₁_elim}
-use Rattle.std.specs.List.{AllByRecursion as All}
+use Rattle.std.specs.List.{AllByRecursion}
 use Rattle.std.proofs.lemmas.Bool.{eq-eqb}
 use Rattle.std.proofs.ByRecursion.{All-weaker, All-append}
 use Rattle.text.specs.declared.line.Line.{Line}
@@ -40,8 +40,8 @@ along_set P n [] i j y e p h = tt
 along_set P n (x ∷ xs) zero j y e p h = let same : j ≡ n = omega arith in (subst (λ m. P m y) same p, h.1)
 along_set P n (x ∷ xs) (suc i) j y e p h = (h.0, along_set P (n + 1) xs i j y (omega arith) p h.1)
 
-seat_all : (k : Kind) (n : ℕ) (P : Line → Type 0) (ls : List Line) → ((l : Line) → Of k l → rank l ≡ start k + n → P l) → Seat k n ls → All P ls
-seat_all k n P ls f = ⊎_elim (λ e. subst (All P) (sym e) tt) (λ h. subst (All P) (sym h.1.0) (f h.0 h.1.1.0 h.1.1.1, tt))
+seat_all : (k : Kind) (n : ℕ) (P : Line → Type 0) (ls : List Line) → ((l : Line) → Of k l → rank l ≡ start k + n → P l) → Seat k n ls → AllByRecursion P ls
+seat_all k n P ls f = ⊎_elim (λ e. subst (AllByRecursion P) (sym e) tt) (λ h. subst (AllByRecursion P) (sym h.1.0) (f h.0 h.1.1.0 h.1.1.1, tt))
 
 seat_up : (k : Kind) (n : ℕ) (ls : List Line) → Seat k n ls → Ascending rank ls
 seat_up k n ls = ⊎_elim (λ e. subst (Ascending rank) (sym e) tt) (λ h. subst (Ascending rank) (sym h.1.0) (tt, tt))
@@ -55,17 +55,17 @@ module _ {X : Type 0} (at : ℕ → X → List Line) (k : Kind) where
   abbrev pub Seated : ℕ → List X → Type 0
   Seated n xs = Along (λ m x. Seat k m (at m x)) n xs
 
-  pub seats_of : (n : ℕ) (xs : List X) → Seated n xs → All (Of k) (by_number at n xs)
+  pub seats_of : (n : ℕ) (xs : List X) → Seated n xs → AllByRecursion (Of k) (by_number at n xs)
   seats_of n [] h = tt
   seats_of n (x ∷ xs) h = All-append (Of k) (at n x) (by_number at (n + 1) xs) (seat_all k n (Of k) (at n x) (λ l o e. o) h.0) (seats_of (n + 1) xs h.1)
 
-  pub seats_low : (n : ℕ) (xs : List X) → Seated n xs → All (λ l. start k + n ≤ rank l) (by_number at n xs)
+  pub seats_low : (n : ℕ) (xs : List X) → Seated n xs → AllByRecursion (λ l. start k + n ≤ rank l) (by_number at n xs)
   seats_low n [] h = tt
   seats_low n (x ∷ xs) h =
       All-append (λ l. start k + n ≤ rank l) (at n x) (by_number at (n + 1) xs) (seat_all k n (λ l. start k + n ≤ rank l) (at n x) (λ l o e. omega arith) h.0)
       (All-weaker (λ l. start k + (n + 1) ≤ rank l) (λ l. start k + n ≤ rank l) (λ l le. omega arith) (by_number at (n + 1) xs) (seats_low (n + 1) xs h.1))
 
-  seat_below : (n m : ℕ) (x : X) → n < m → Seat k n (at n x) → All (λ l. rank l < start k + m) (at n x)
+  seat_below : (n m : ℕ) (x : X) → n < m → Seat k n (at n x) → AllByRecursion (λ l. rank l < start k + m) (at n x)
   seat_below n m x lt h = seat_all k n (λ l. rank l < start k + m) (at n x) (λ l o e. omega arith) h
 
   pub seats_up : (n : ℕ) (xs : List X) → Seated n xs → Ascending rank (by_number at n xs)

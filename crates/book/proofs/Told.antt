@@ -1,7 +1,7 @@
 -- A book is told by its lines, and so by its text. Assumes nothing.
 use Rattle.std.proofs.Common.{◌≡◌, ℕ, ◌-◌, ◌<◌, ◌≤◌, Bool, true, false, cond, List, [], ◌∷◌, ◌++◌, map, length, take, drop, replicate, Ok, Result, sym, refl, ap, ◌∙◌, subst, arith}
 use denote.Struct.Cover.{Cover-one}
-use Rattle.std.specs.List.{ContainsAt as Has, flat_map, AllByRecursion as All}
+use Rattle.std.specs.List.{ContainsAt as Has, flat_map, AllByRecursion}
 use Rattle.std.proofs.lemmas.List.{length-map, length-take-le, take-append-drop}
 use Rattle.std.proofs.ByRecursion.{All-weaker, All-append}
 use Rattle.text.specs.declared.line.Line.{Line}
@@ -44,11 +44,11 @@ told_by_text b c = (
 kind_same : (b c : Book) → lines c ≡ lines b → (k : Kind) → lines_of c k ≡ lines_of b k
 unfolding lines
 kind_same b c e k =
-    let low : (d : Book) → All (λ l. start k ≤ rank l) (lines_of d k) = λ d. All-weaker (Of k) (λ l. start k ≤ rank l) (of_low k) (lines_of d k) (of_kind d k) in
-    let most : (d : Book) → All (λ l. rank l < stop k) (lines_of d k) = λ d. All-weaker (Of k) (λ l. rank l < stop k) (of_high k) (lines_of d k) (of_kind d k) in
+    let low : (d : Book) → AllByRecursion (λ l. start k ≤ rank l) (lines_of d k) = λ d. All-weaker (Of k) (λ l. start k ≤ rank l) (of_low k) (lines_of d k) (of_kind d k) in
+    let most : (d : Book) → AllByRecursion (λ l. rank l < stop k) (lines_of d k) = λ d. All-weaker (Of k) (λ l. rank l < stop k) (of_high k) (lines_of d k) (of_kind d k) in
     let back : (d : Book) → List Line = λ d. flat_map (lines_of d) (behind k) in
-    let high : (d : Book) → All (λ l. stop k ≤ rank l) (back d) = λ d. back_high (lines_of d) (of_kind d) k in
-    let rest : (d : Book) → All (λ l. start k ≤ rank l) (lines_of d k ++ back d) =
+    let high : (d : Book) → AllByRecursion (λ l. stop k ≤ rank l) (back d) = λ d. back_high (lines_of d) (of_kind d) k in
+    let rest : (d : Book) → AllByRecursion (λ l. start k ≤ rank l) (lines_of d k ++ back d) =
     λ d. All-append (λ l. start k ≤ rank l) (lines_of d k) (back d) (low d) (All-weaker (λ l. stop k ≤ rank l) (λ l. start k ≤ rank l) (λ l le. omega arith) (back d) (high d)) in
     let two = parted rank (start k) (flat_map (lines_of c) (before k)) (lines_of c k ++ back c) (flat_map (lines_of b) (before k)) (lines_of b k ++ back b)
     (front_low (lines_of c) (of_kind c) k) (front_low (lines_of b) (of_kind b) k) (rest c) (rest b) (sym (framed (lines_of c) k) ∙ e ∙ framed (lines_of b) k) in

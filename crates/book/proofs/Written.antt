@@ -1,7 +1,7 @@
 -- One line more of a book's text. Assumes nothing.
 use Rattle.std.proofs.Common.{◌≡◌, ℕ, ◌+◌, ◌-◌, ◌<◌, ◌≤◌, true, false, List, [], ◌∷◌, ◌++◌, length, take, drop, set, is_some, Some, None, Option, sym, ap, ◌∙◌, subst, append_assoc, append-nil, arith}
 use borrow.Rule.Slice.PartMut.{put_mid, post_of}
-use Rattle.std.specs.List.{AllByRecursion as All}
+use Rattle.std.specs.List.{AllByRecursion}
 use Rattle.std.proofs.lemmas.List.{drop_more, set_at, length-append, length-drop, length_push, take_at, drop_at, drop-drop, drop_all, take_rest}
 use Rattle.std.proofs.lemmas.Bool.{true≢false, false≢true}
 use Rattle.text.specs.declared.line.Line.{Line}
@@ -44,7 +44,7 @@ book_text_one : (l : Line) → book_text (l ∷ []) ≡ ended l
 unfolding book_text
 book_text_one l = append-nil (ended l)
 
-all_parts : (P : Line → Type 0) (xs ys : List Line) → All P (xs ++ ys) → All P xs × All P ys
+all_parts : (P : Line → Type 0) (xs ys : List Line) → AllByRecursion P (xs ++ ys) → AllByRecursion P xs × AllByRecursion P ys
 all_parts P [] ys h = (tt, h)
 all_parts P (x ∷ xs) ys h = let more = all_parts P xs ys h.1 in ((h.0, more.0), more.1)
 
@@ -66,7 +66,7 @@ module _ (b : Book) (k : ℕ) where
 
       pub within_here : Within l
       within_here =
-          let both = all_parts Within (below (line_at b) k ++ l ∷ []) rest.0 (subst (All Within) rest.1 (within_lines b)) in
+          let both = all_parts Within (below (line_at b) k ++ l ∷ []) rest.0 (subst (AllByRecursion Within) rest.1 (within_lines b)) in
           (all_parts Within (below (line_at b) k) (l ∷ []) both.0).1.0
 
       pub text_fits : length (book_text (below (line_at b) k)) + length (ended l) ≤ length (book_text (lines b))

@@ -1,11 +1,11 @@
 -- Lists in the order of a rank, and tables that are kept so.
 use Rattle.std.specs.Prelude.{◌≡◌, ℕ, suc, ◌-◌, ◌<◌, ◌≤◌, Bool, false, cond, ◌||◌, List, [], ◌∷◌, length, take, drop, replicate, ◌==◌, nat_lt}
-use Rattle.std.specs.List.{AllByRecursion as All}
+use Rattle.std.specs.List.{AllByRecursion}
 
 -- each has a lower rank than all behind it
 abbrev pub Ascending : {X : Type 0} → (X → ℕ) → List X → Type 0
 Ascending rank [] = Unit {0}
-Ascending rank (x ∷ xs) = All (λ y. rank x < rank y) xs × Ascending rank xs
+Ascending rank (x ∷ xs) = AllByRecursion (λ y. rank x < rank y) xs × Ascending rank xs
 
 -- one of them has the rank r
 abbrev pub among : {X : Type 0} → (X → ℕ) → ℕ → List X → Bool

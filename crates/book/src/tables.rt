@@ -1,5 +1,5 @@
 ghost use Rattle.std.specs.Prelude.{◌≡◌, ◌^◌, ◌<◌, ◌≤◌, length};
-ghost use Rattle.std.specs.List.{AllByRecursion as All};
+ghost use Rattle.std.specs.List.{AllByRecursion};
 ghost use Rattle.book.specs.Order.{Tidy};
 ghost use Rattle.book.specs.Ranks.{phase_rank, watch_rank, link_rank};
 ghost use Rattle.book.specs.Tables.{Along, AtNumber, blank_watch, blank_link};
@@ -28,7 +28,7 @@ pub struct Book {
     pub bares: [bool; 16],
     // what makes equal books equal records
     ghost numbered: { (length rules ≡ 64) × ∥ Along AtNumber 0 rules ∥₁ },
-    ghost phases: { ∥ All (λ F. F < 2 ^ 64) opens ∥₁ },
+    ghost phases: { ∥ AllByRecursion (λ F. F < 2 ^ 64) opens ∥₁ },
     ghost opened: { Tidy phase_rank 0 8 opens opening },
     ghost watched: { Tidy watch_rank blank_watch 128 watches watching },
     ghost linked: { Tidy link_rank blank_link 128 links linking },

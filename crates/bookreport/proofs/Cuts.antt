@@ -2,12 +2,12 @@
 use Rattle.std.proofs.Common.{◌≡◌, ℕ, ◌+◌, ◌<◌, ◌≤◌, eqb, List, [], ◌∷◌, ◌++◌, length, get_or, take, drop, sym, refl, ap, ◌∙◌, subst, arith}
 use Rattle.std.proofs.lemmas.List.{take-append-drop, take_all, drop_more}
 use Rattle.std.proofs.lemmas.Bool.{cond-false, ne_eqb}
-use Rattle.std.specs.List.{AllByRecursion as All}
+use Rattle.std.specs.List.{AllByRecursion}
 use Rattle.book.specs.Writing.{split, before_first}
 
 -- no byte of it ends a line
 abbrev pub Whole : List ℕ → Type 0
-Whole s = All (λ b. b ≡ 10 → ⊥) s
+Whole s = AllByRecursion (λ b. b ≡ 10 → ⊥) s
 
 split_on : (b : ℕ) (s : List ℕ) → (b ≡ 10 → ⊥) → split (b ∷ s) ≡ before_first b (split s)
 split_on b s other = cond-false (eqb b 10) ([] ∷ split s) (before_first b (split s)) (ne_eqb b 10 other)

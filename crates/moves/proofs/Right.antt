@@ -2,7 +2,7 @@
 use Rattle.std.proofs.Common.{◌≡◌, ℕ, ◌≤◌, Bool, true, false, ◌&&◌, eqb, leb, List, [], ◌∷◌, length, take, drop, Ok, Err, Result, sym, refl, ap, ◌∙◌, subst, arith}
 use Rattle.std.proofs.lemmas.List.{length-append, take_at, drop_at}
 use Rattle.std.proofs.lemmas.Bool.{both_ways, cond_both, and_from, and_parts, eq-eqb, eqb-true, le-leb, leb-true}
-use Rattle.std.specs.List.{AllByRecursion as All}
+use Rattle.std.specs.List.{AllByRecursion}
 use Rattle.text.specs.declared.line.Line.{Line}
 use Rattle.text.specs.declared.line.Rule.{Rule}
 use Rattle.text.specs.declared.refusal.LineRefusal.{LineRefusal}
@@ -19,11 +19,11 @@ use Rattle.moves.specs.Moving.{Handed, start, wagons_fit, is_position, number_of
 use Rattle.moves.specs.Meaning.{Proper, MovesTo, Right}
 use Rattle.moves.proofs.Steps.{Carries, step_carries, carries_step}
 
-fit_all : (w : List ℕ) → wagons_fit w ≡ true → All (λ k. k ≤ 31) w
+fit_all : (w : List ℕ) → wagons_fit w ≡ true → AllByRecursion (λ k. k ≤ 31) w
 fit_all [] e = tt
 fit_all (k ∷ w) e = let (p, q) = and_parts (leb k 31) (wagons_fit w) e in (leb-true k 31 p, fit_all w q)
 
-all_fit : (w : List ℕ) → All (λ k. k ≤ 31) w → wagons_fit w ≡ true
+all_fit : (w : List ℕ) → AllByRecursion (λ k. k ≤ 31) w → wagons_fit w ≡ true
 all_fit [] h = refl
 all_fit (k ∷ w) h = and_from (leb k 31) (wagons_fit w) (le-leb k 31 h.0) (all_fit w h.1)
 

@@ -1,6 +1,6 @@
 -- What the call promises, in the words of the model.
 use Rattle.std.specs.Prelude.{◌≡◌, ℕ, ◌≤◌, List, [], ◌∷◌, length, take, drop, Ok, Err, Result}
-use Rattle.std.specs.List.{AllByRecursion as All}
+use Rattle.std.specs.List.{AllByRecursion}
 use Rattle.text.specs.declared.line.Line.{Line}
 use Rattle.text.specs.Forms.{rule_forms}
 use Rattle.text.specs.Meaning.{SaysAs}
@@ -13,7 +13,7 @@ use Rattle.moves.specs.Moving.{Handed, start}
 pub record Proper (h : Handed) : Type 0 where
   pub within : h.len ≤ length h.buffer
   pub mode : h.mode ≤ 15
-  pub wagons : All (λ k. k ≤ 31) (start h).lane
+  pub wagons : AllByRecursion (λ k. k ≤ 31) (start h).lane
 
 -- The text says a line, and the book that holds just this line has a move from the position to y, by the number handed over,
 -- after which the lane has room in the buffer.

@@ -1,6 +1,6 @@
 -- Paths laid out stand for runs.
 use Rattle.std.proofs.Common.{◌≡◌, ℕ, zero, suc, ◌+◌, ◌<◌, List, [], ◌∷◌, ◌++◌, sym, refl, ap, ◌∙◌, subst, append_assoc, arith}
-use Rattle.std.specs.List.{AllByRecursion as All}
+use Rattle.std.specs.List.{AllByRecursion}
 use Rattle.grade.specs.declared.grade.Grade.{Ghosts}
 use Rattle.grade.specs.Lawful.{Lawful}
 use Rattle.text.specs.declared.line.Line.{Line}
@@ -34,7 +34,7 @@ module _ {G : Type 0} (m : Ghosts G) (ls : List Line) (Fs : List ℕ) (rows : Li
   -- what places stand for from a state: from a node, link lines alone
   abbrev Good : State → List ℕ → List ℕ → List Move → Type 0
   Good (head p F) w ks ms = StandsFor m ls Fs rows n (at p F w) ks ms
-  Good (node t) w ks ms = Leads ls t w × (All (LineRow m ls Fs rows n) ks × (ms ≡ []))
+  Good (node t) w ks ms = Leads ls t w × (AllByRecursion (LineRow m ls Fs rows n) ks × (ms ≡ []))
 
   -- moves that a row stands for, whatever comes behind it
   pub record RowGood (k : ℕ) : Type 0 where
@@ -64,7 +64,7 @@ module _ {G : Type 0} (m : Ghosts G) (ls : List Line) (Fs : List ℕ) (rows : Li
     one_more : (mv : Move) (ms : List Move) → moves_grade m (mv ∷ ms) ≡ m.join (m.priced mv.toll) (moves_grade m ms)
     one_more mv ms = append_grade lawful (mv ∷ []) ms ∙ ap (λ g. m.join g (moves_grade m ms)) (lawful.unitl (m.priced mv.toll))
 
-    chain_good : {s u : State} {v qs : List ℕ} {g : G} → Chain m ls Fs rows n s v qs u g → All RowGood qs → ChainGood s v qs u g
+    chain_good : {s u : State} {v qs : List ℕ} {g : G} → Chain m ls Fs rows n s v qs u g → AllByRecursion RowGood qs → ChainGood s v qs u g
     chain_good chain_none good = record { moves = []; graded = refl; shows = λ w ks ms behind. behind }
     chain_good {s} (chain_on {t = t} {x = x} {w = v} {k = k} {ks = qs} is chain) (first, others) =
         let rest = chain_good chain others in
@@ -87,7 +87,7 @@ module _ {G : Type 0} (m : Ghosts G) (ls : List Line) (Fs : List ℕ) (rows : Li
       shows = at_row k [] is (λ w ks ms (leads, (lines, none)). subst (StandsFor m ls Fs rows n (at v.mode.value F (v.wagon.value ∷ w)) (k ∷ ks)) (sym none) (arrived (read stands is_open leads) ((lt, why), lines)));
     }
 
-    order_good : (k number a b : ℕ) → k < n → (r k).reason ≡ reason.Order number a b → (o : RightOrder m ls Fs rows n k number a b) → All RowGood (parts o.line.wagons a b) → RowGood k
+    order_good : (k number a b : ℕ) → k < n → (r k).reason ≡ reason.Order number a b → (o : RightOrder m ls Fs rows n k number a b) → AllByRecursion RowGood (parts o.line.wagons a b) → RowGood k
     order_good k number a b lt why o good =
         let rest = chain_good o.chain good in
         let mv = order_move o.line in
@@ -110,7 +110,7 @@ module _ {G : Type 0} (m : Ghosts G) (ls : List Line) (Fs : List ℕ) (rows : Li
         }
 
     module _ (reasoned : Reasoned m ls Fs rows n) where
-      all_good : (k : ℕ) (qs : List ℕ) → ((a : ℕ) → Earlier m ls Fs rows n k a → RowGood a) → All (Earlier m ls Fs rows n k) qs → All RowGood qs
+      all_good : (k : ℕ) (qs : List ℕ) → ((a : ℕ) → Earlier m ls Fs rows n k a → RowGood a) → AllByRecursion (Earlier m ls Fs rows n k) qs → AllByRecursion RowGood qs
       all_good k [] each all = tt
       all_good k (a ∷ qs) each (first, others) = (each a first, all_good k qs each others)
 

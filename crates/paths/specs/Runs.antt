@@ -1,6 +1,6 @@
 -- Paths laid out over rows with right reasons, and the runs that they stand for.
 use Rattle.std.specs.Prelude.{◌≡◌, ℕ, ◌<◌, List, [], ◌∷◌, ◌++◌}
-use Rattle.std.specs.List.{AllByRecursion as All}
+use Rattle.std.specs.List.{AllByRecursion}
 use Rattle.grade.specs.declared.grade.Grade.{Ghosts}
 use Rattle.text.specs.declared.line.OrderLine.{OrderLine}
 use Rattle.text.specs.declared.line.NoticeLine.{NoticeLine}
@@ -39,9 +39,9 @@ module _ {G : Type 0} (m : Ghosts G) (ls : List Line) (Fs : List ℕ) (rows : Li
   -- `StandsFor x ks ms`: the rows at the places ks, the top first, stand for the moves ms of a run from x into the watch.
   -- Rows of lines stand for none. A row by an order or a notice stands for its move and then what the rows that it rests on stand for, in its place.
   pub data StandsFor : Position → List ℕ → List Move → Type 0 where
-    arrived : {x : Position} {ks : List ℕ} → Watched ls x → All LineRow ks → StandsFor x ks []
+    arrived : {x : Position} {ks : List ℕ} → Watched ls x → AllByRecursion LineRow ks → StandsFor x ks []
     on_order : {o : OrderLine} {F : ℕ} {w : List ℕ} {k : ℕ} {ks : List ℕ} {a b : ℕ} {ms : List Move} → Stands ls (Order o) → InForce F o.number.value → k < n
-        → (row_at m rows k).reason ≡ reason.Order o.number.value a b → All (Earlier k) (parts o.wagons a b)
+        → (row_at m rows k).reason ≡ reason.Order o.number.value a b → AllByRecursion (Earlier k) (parts o.wagons a b)
         → StandsFor (at o.to.value F (laid_down o ++ w)) (parts o.wagons a b ++ ks) ms → StandsFor (at o.mode.value F (o.wagon.value ∷ w)) (k ∷ ks) (order_move o ∷ ms)
     on_notice : {v : NoticeLine} {F x : ℕ} {w : List ℕ} {k : ℕ} {ks : List ℕ} {a : ℕ} {ms : List Move} → Stands ls (Notice v) → Allows v F → k < n
         → (row_at m rows k).reason ≡ reason.Notice v.number.value a → Earlier k a
@@ -68,7 +68,7 @@ module _ {G : Type 0} (m : Ghosts G) (ls : List Line) (Fs : List ℕ) (rows : Li
     pub numbered : line.number.value ≡ number
     pub in_force : InForce phase line.number.value
     pub is : row_of Fs (row_at m rows k) ≡ order_row line phase to
-    pub earlier : All (Earlier k) (parts line.wagons a b)
+    pub earlier : AllByRecursion (Earlier k) (parts line.wagons a b)
     pub chain : Chain (head line.to.value phase) (laid_down line) (parts line.wagons a b) to rest
     pub graded : m.join (m.priced line.toll) rest ≡ (row_at m rows k).grade
 

@@ -1,6 +1,6 @@
 -- What is told of a position: whether the watch holds it.
 use Rattle.std.specs.Prelude.{◌≡◌, ℕ, ◌≤◌, Bool, ◌⊎◌, List, [], ◌∷◌, length, Decides, Result, MatchResult}
-use Rattle.std.specs.List.{AllByRecursion as All}
+use Rattle.std.specs.List.{AllByRecursion}
 use Rattle.grade.specs.declared.upto.UpTo.{UpTo}
 use Rattle.text.specs.declared.line.WatchLine.{WatchLine}
 use Rattle.text.specs.declared.line.Line.{Line}
@@ -14,7 +14,7 @@ use Rattle.phases.specs.Refusals.{position_number, position_place}
 -- a mode and wagons within their limits, and at most 32 wagons
 pub record Fits (mode : ℕ) (lane : List ℕ) : Type 0 where
   pub mode_fits : mode ≤ 15
-  pub wagons_fit : All (λ k. k ≤ 31) lane
+  pub wagons_fit : AllByRecursion (λ k. k ≤ 31) lane
   pub short : length lane ≤ 32
 
 -- The watch's lines take a mode and a lane, whatever the phase: a bare line takes an empty lane, and a watch line the top of

@@ -1,8 +1,8 @@
 // The rows of a book, and what is asked of them.
 use crate::ask::Ask;
 use crate::blank::{blank_cells, blank_rows, blank_waiting};
-use crate::moves::print_runs;
 use crate::options::Options;
+use crate::runs::print_runs;
 use crate::shown::Shown;
 use book::tables::Book;
 use grade::grade::Grade;

@@ -9,8 +9,8 @@
 mod answers;
 mod ask;
 mod blank;
-mod moves;
 mod options;
+mod runs;
 mod shown;
 mod times;
 

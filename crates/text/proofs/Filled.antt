@@ -2,7 +2,7 @@
 use Rattle.std.proofs.Common.{◌≡◌, ℕ, zero, suc, ◌+◌, ◌*◌, ◌<◌, ◌≤◌, Bool, true, false, cond, not, ◌&&◌, eqb, ltb, ◌⊎◌, List, [], ◌∷◌, ◌++◌, length, Ok, Err, sym, refl, ap, ◌∙◌, inl, inr, ⊎_elim, arith}
 use Rattle.std.proofs.lemmas.List.{append_assoc, length-append}
 use Rattle.std.proofs.lemmas.Bool.{false≢true, cond-true, cond-false, cond_both, cases_lt, eq-eqb, ne_eqb, eqb-false, and_parts, not-true}
-use Rattle.std.specs.List.{flat_map, AllByRecursion as All}
+use Rattle.std.specs.List.{flat_map, AllByRecursion}
 use Rattle.grade.specs.declared.upto.UpTo.{UpTo}
 use Rattle.text.specs.declared.line.Line.{Line}
 use Rattle.text.specs.declared.refusal.LineRefusal.TheVariants.{Syntax, TooLarge, NotRising}
@@ -114,7 +114,7 @@ none_taken (suc n) most rise least (b ∷ t) p over falls next e = cond-false (e
 
 module _ (most : ℕ) (rise : Bool) (t : List ℕ) (no_digit : starts t ≡ false) where
   -- a list of numbers that is not too long is taken whole
-  numbers_taken : (n : ℕ) (dss : List (List ℕ)) → All Numeral dss → length dss ≤ n → blank t ≡ false → (least low p over falls : ℕ) (next : List (UpTo most) → Next) → take_numbers n most rise least (flat_map blank_digits dss ++ t) p over falls next ≡ next (kept_all most dss) t (p + length (flat_map blank_digits dss)) (first above over (list_marks most rise p low dss)) (first fell falls (kept_list most rise p least dss))
+  numbers_taken : (n : ℕ) (dss : List (List ℕ)) → AllByRecursion Numeral dss → length dss ≤ n → blank t ≡ false → (least low p over falls : ℕ) (next : List (UpTo most) → Next) → take_numbers n most rise least (flat_map blank_digits dss ++ t) p over falls next ≡ next (kept_all most dss) t (p + length (flat_map blank_digits dss)) (first above over (list_marks most rise p low dss)) (first fell falls (kept_list most rise p least dss))
   numbers_taken n [] h le no_blank least low p over falls next =
       let same : p ≡ p + 0 = omega arith in
       none_taken n most rise least t p over falls next no_blank ∙ ap (λ q. next [] t q over falls) same
@@ -136,7 +136,7 @@ module _ (most : ℕ) (rise : Bool) (t : List ℕ) (no_digit : starts t ≡ fals
   Leaves n next p x =
       (xs : List (UpTo most)) × (u : List ℕ) × (q : ℕ) × (over : ℕ) × (falls : ℕ) × (p + 2 * n ≤ q) × (x ≡ next xs (32 ∷ u) q over falls)
 
-  numbers_left : (n : ℕ) (dss : List (List ℕ)) → All Numeral dss → n < length dss → (least p over falls : ℕ) (next : List (UpTo most) → Next) → Leaves n next p (take_numbers n most rise least (flat_map blank_digits dss ++ t) p over falls next)
+  numbers_left : (n : ℕ) (dss : List (List ℕ)) → AllByRecursion Numeral dss → n < length dss → (least p over falls : ℕ) (next : List (UpTo most) → Next) → Leaves n next p (take_numbers n most rise least (flat_map blank_digits dss ++ t) p over falls next)
   numbers_left n [] h lt least p over falls next = absurd (omega arith)
   numbers_left zero (ds ∷ dss) h lt least p over falls next = ([], ds ++ flat_map blank_digits dss ++ t, p, over, falls, omega arith, refl)
   numbers_left (suc n) (ds ∷ dss) h lt least p over falls next =
@@ -204,7 +204,7 @@ module _ (ps : List Part) (line : Values ps → Line) (r : Filling ps) (p over f
   abbrev pub TakenWhole : Type 0
   TakenWhole = Comes p (scan ps line (filled ps r) p over falls) (settled (line (meant ps r)) (first above over (marks ps r p)) (first fell falls (kept_marks ps r p)))
 
-module _ (ps : List Part) (closed : ends ps ≡ true) (n most : ℕ) (rise : Bool) {V : Type 0} (g : List (UpTo most) → V) (line : V × Values ps → Line) (dss : List (List ℕ)) (proper : All Numeral dss) (r : Filling ps) (p over falls : ℕ) where
+module _ (ps : List Part) (closed : ends ps ≡ true) (n most : ℕ) (rise : Bool) {V : Type 0} (g : List (UpTo most) → V) (line : V × Values ps → Line) (dss : List (List ℕ)) (proper : AllByRecursion Numeral dss) (r : Filling ps) (p over falls : ℕ) where
   abbrev after : List (UpTo most) → Next
   after xs = scan ps (λ v. line (g xs, v))
 

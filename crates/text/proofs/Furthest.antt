@@ -3,7 +3,7 @@ use Rattle.std.proofs.Common.{◌≡◌, ℕ, zero, suc, ◌+◌, ◌-◌, ◌*�
 use Rattle.std.proofs.lemmas.List.{length-take-le, get_or_append_left, take-append-le, take-take}
 use Rattle.std.proofs.lemmas.Bool.{cases_lt}
 use Rattle.std.proofs.ByRecursion.{all-has, All-weaker}
-use Rattle.std.specs.List.{ContainsAt as Has, AllByRecursion as All}
+use Rattle.std.specs.List.{ContainsAt as Has, AllByRecursion}
 use Rattle.text.specs.declared.line.Line.{Line}
 use Rattle.text.specs.declared.refusal.LineRefusal.TheVariants.{Syntax, TooLarge, NotRising}
 use Rattle.text.specs.Forms.{Part, Form, word, number, wagons, rising, forms}
@@ -43,7 +43,7 @@ Good f = (parted f.parts ≡ true) × (3 ≤ length (lead f.parts))
 
 abbrev pub Apart : List Form → Type 0
 Apart [] = Unit {0}
-Apart (f ∷ fs) = All (λ g. key (lead f.parts) ≡ key (lead g.parts) → ⊥) fs × Apart fs
+Apart (f ∷ fs) = AllByRecursion (λ g. key (lead f.parts) ≡ key (lead g.parts) → ⊥) fs × Apart fs
 
 key_filled : (ps : List Part) (r : Filling ps) → 3 ≤ length (lead ps) → key (filled ps r) ≡ key (lead ps)
 key_filled [] r le = absurd (omega arith)
@@ -145,7 +145,7 @@ abbrev Refused : List ℕ → ℕ → Form → Type 0
 Refused s q f = (p : ℕ) × (p ≤ q) × (by_form f s ≡ Err (Syntax p))
 
 -- where the forms stop together, each stops there or before
-stops_all : (fs : List Form) (s : List ℕ) (q : ℕ) → by_forms fs s ≡ Err (Syntax q) → All (Refused s q) fs
+stops_all : (fs : List Form) (s : List ℕ) (q : ℕ) → by_forms fs s ≡ Err (Syntax q) → AllByRecursion (Refused s q) fs
 stops_all [] s q e = tt
 stops_all (f ∷ fs) s q e =
     let (a, b, x, y, m) = further_stops (by_form f s) (by_forms fs s) q e in
@@ -169,7 +169,7 @@ stops_one (f ∷ fs) s q e =
 abbrev pub shape : (fs : List Form) (f : Form) → Has fs f → (s : List ℕ) → Of f.parts s → Shape fs s
 shape fs f h s o = record { form = f; among = h; filling = o.0; proper = o.1.0; is = o.1.1 }
 
-module _ (fs : List Form) (good : All Good fs) (s : List ℕ) (short : length s ≤ 512) where
+module _ (fs : List Form) (good : AllByRecursion Good fs) (s : List ℕ) (short : length s ≤ 512) where
   -- where all forms stop, no form goes on
   pub forms_stop : (f : Form) → Has fs f → (q : ℕ) → by_forms fs s ≡ Err (Syntax q) → Stops fs s q
   forms_stop f has q e =
@@ -224,7 +224,7 @@ form_of f s c =
     (scan_tells f.parts f.line s 1 0 0)
 
 -- a text of one of the forms is read by that form
-pub forms_own : (fs : List Form) → All Good fs → Apart fs → (s : List ℕ) → length s ≤ 512 → (f : Form) → Has fs f → Of f.parts s → by_forms fs s ≡ by_form f s
+pub forms_own : (fs : List Form) → AllByRecursion Good fs → Apart fs → (s : List ℕ) → length s ≤ 512 → (f : Form) → Has fs f → Of f.parts s → by_forms fs s ≡ by_form f s
 forms_own [] good apart s short f has o = absurd (omega (arith, has.1))
 forms_own (g ∷ fs) good apart s short f has o =
     let c : Clear (by_form f s) = form_clear f (all-has Good (g ∷ fs) f good has) s short o in
@@ -243,7 +243,7 @@ forms_own (g ∷ fs) good apart s short f has o =
     in
     ⊎_elim own other (has_cases g fs f has)
 
-pub forms_good : All Good forms
+pub forms_good : AllByRecursion Good forms
 forms_good =
     ((refl, omega arith), ((refl, omega arith), ((refl, omega arith), ((refl, omega arith), ((refl, omega arith), ((refl, omega arith), ((refl, omega arith), tt)))))))
 

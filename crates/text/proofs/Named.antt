@@ -1,7 +1,7 @@
 -- A line that begins with a form's name is read by that form. Assumes nothing.
 use Rattle.std.proofs.Common.{◌≡◌, ℕ, ◌+◌, ◌≤◌, max, cond, ltb, List, [], ◌∷◌, ◌++◌, length, Ok, Err, codes, sym, refl, ap, ◌∙◌, ⊎_elim, arith}
 use Rattle.std.proofs.lemmas.Bool.{cond-false, le-ltb}
-use Rattle.std.specs.List.{AllByRecursion as All}
+use Rattle.std.specs.List.{AllByRecursion}
 use Rattle.text.specs.declared.line.Line.{Line}
 use Rattle.text.specs.declared.refusal.LineRefusal.TheVariants.{Syntax, TooLarge, NotRising}
 use Rattle.text.specs.Forms.{Part, Form, Values, word, forms, rule_forms, order_tail, order_of, notice_tail, notice_of, open_tail, open_of, watch_tail, watch_of, link_tail, link_of, end_tail, end_of, bare_tail, bare_of}
@@ -36,7 +36,7 @@ abbrev behind : List ℕ → Outcome → Outcome
 behind [] x = x
 behind (k ∷ ks) x = further (Err (Syntax k)) (behind ks x)
 
-behind_wins : (x : Outcome) (n : ℕ) → Past n x → (ks : List ℕ) → All (λ k. k ≤ n) ks → behind ks x ≡ x
+behind_wins : (x : Outcome) (n : ℕ) → Past n x → (ks : List ℕ) → AllByRecursion (λ k. k ≤ n) ks → behind ks x ≡ x
 behind_wins x n past [] le = refl
 behind_wins x n past (k ∷ ks) le =
     ap (further (Err (Syntax k))) (behind_wins x n past ks le.1) ∙ last_wins x k (λ q e. let h = past q e in let m = le.0 in omega arith)
@@ -45,7 +45,7 @@ short : (s : List ℕ) (x : Outcome) → length s ≤ 512 → cond (ltb 512 (len
 short s x le = cond-false (ltb 512 (length s)) _ _ (le-ltb 512 (length s) le)
 
 -- the forms before and behind stop at these places, within the name
-named : (fs : List Form) (s : List ℕ) (x : Outcome) (n : ℕ) (ks : List ℕ) (k : ℕ) → length s ≤ 512 → Past n x → All (λ j. j ≤ n) ks → k ≤ n → by_forms fs s ≡ behind ks (further x (Err (Syntax k))) → read_as fs s ≡ x
+named : (fs : List Form) (s : List ℕ) (x : Outcome) (n : ℕ) (ks : List ℕ) (k : ℕ) → length s ≤ 512 → Past n x → AllByRecursion (λ j. j ≤ n) ks → k ≤ n → by_forms fs s ≡ behind ks (further x (Err (Syntax k))) → read_as fs s ≡ x
 named fs s x n ks k le past low least e =
     short s (by_forms fs s) le ∙ e
     ∙ ap (behind ks) (first_wins x k (λ q f. let h = past q f in omega arith)) ∙ behind_wins x n past ks low

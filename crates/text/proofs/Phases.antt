@@ -4,7 +4,7 @@ use Rattle.std.proofs.Common.{◌≡◌, ℕ, zero, suc, ◌+◌, ◌*◌, ◌/�
 use native.Mathlib.Nat.{mod-one, div-eq_of_lt, pow-le-pow_right}
 use native.Mathlib.Decide.{le_ind}
 use lib.Bits.{bit_or, or_shifted_r}
-use Rattle.std.specs.List.{AllByRecursion as All}
+use Rattle.std.specs.List.{AllByRecursion}
 use Rattle.std.proofs.lemmas.List.{append-nil, length-append}
 use Rattle.std.proofs.lemmas.Bool.{cond_both, eqb-true, eqb-false}
 use Rattle.std.proofs.lemmas.Nat.{pow_pos, pow_below, or_lt, mod-pow-add, mod_below, shr_high, mod_low}
@@ -15,7 +15,7 @@ abbrev pub Rising : (least top : ℕ) → List ℕ → Type 0
 Rising least top [] = Unit {0}
 Rising least top (n ∷ ns) = (least ≤ n) × ((n < top) × Rising (n + 1) top ns)
 
-pub rising_all : (least top : ℕ) (ns : List ℕ) → Rising least top ns → All (λ n. n < top) ns
+pub rising_all : (least top : ℕ) (ns : List ℕ) → Rising least top ns → AllByRecursion (λ n. n < top) ns
 rising_all least top [] r = tt
 rising_all least top (n ∷ ns) r = (r.1.0, rising_all (n + 1) top ns r.1.1)
 

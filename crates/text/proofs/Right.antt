@@ -3,7 +3,7 @@ use Rattle.std.proofs.Common.{◌≡◌, ℕ, ◌-◌, ◌<◌, ◌≤◌, ltb, 
 use Rattle.std.proofs.lemmas.List.{append_assoc, take-append-drop, take-take}
 use Rattle.std.proofs.lemmas.Bool.{cond_both, cases_order, ltb-true, ltb-false}
 use Rattle.std.proofs.ByRecursion.{all-has, has_append_left}
-use Rattle.std.specs.List.{ContainsAt as Has, AllByRecursion as All}
+use Rattle.std.specs.List.{ContainsAt as Has, AllByRecursion}
 use Rattle.text.specs.declared.line.Line.{Line}
 use Rattle.text.specs.declared.refusal.LineRefusal.TheVariants.{Syntax, TooLarge, NotRising}
 use Rattle.text.specs.Forms.{Form, text, forms, rule_forms, order_form}
@@ -17,7 +17,7 @@ use Rattle.text.proofs.Furthest.{syntax_cases, shape, forms_stop, forms_shape, f
 
 -- no number is above its limit, and none falls
 abbrev pub Sound : List Mark → Type 0
-Sound ms = All (Not Above) ms × All (Not Falls) ms
+Sound ms = AllByRecursion (Not Above) ms × AllByRecursion (Not Falls) ms
 
 -- a verdict is the only one
 fine_is : (l : Line) (ms : List Mark) (x : Outcome) → Sound ms → Verdict l ms x → Ok l ≡ x
@@ -30,7 +30,7 @@ large_is l ms x q f (fine a b e) = absurd (first_none Above ms q a f)
 large_is l ms x q f (large p g e) = ap (λ (n : ℕ). Err (TooLarge n)) (first_one Above ms q p f g) ∙ sym e
 large_is l ms x q f (falling p a g e) = absurd (first_none Above ms q a f)
 
-falling_is : (l : Line) (ms : List Mark) (x : Outcome) (q : ℕ) → All (Not Above) ms → FirstAt Falls ms q → Verdict l ms x → Err (NotRising q) ≡ x
+falling_is : (l : Line) (ms : List Mark) (x : Outcome) (q : ℕ) → AllByRecursion (Not Above) ms → FirstAt Falls ms q → Verdict l ms x → Err (NotRising q) ≡ x
 falling_is l ms x q n f (fine a b e) = absurd (first_none Falls ms q b f)
 falling_is l ms x q n f (large p g e) = absurd (first_none Above ms p n g)
 falling_is l ms x q n f (falling p a g e) = ap (λ (m : ℕ). Err (NotRising m)) (first_one Falls ms q p f g) ∙ sym e
@@ -62,7 +62,7 @@ line_of h = h.form.line (meant h.form.parts h.filling)
 -- some of the seven forms, and one of them at least
 pub record Chosen (fs : List Form) : Type 0 where
   pub among : (f : Form) → Has fs f → Has forms f
-  pub good : All Good fs
+  pub good : AllByRecursion Good fs
   pub apart : Apart fs
   pub one : Form
   pub one_among : Has fs one

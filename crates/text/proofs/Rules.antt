@@ -1,6 +1,6 @@
 -- What a text says where only orders and notices exist. Assumes nothing.
 use Rattle.std.proofs.Common.{◌≡◌, ℕ, ◌+◌, false, List, [], ◌∷◌, length, Ok, Err, Result, refl, subst, arith}
-use Rattle.std.specs.List.{flat_map, AllByRecursion as All}
+use Rattle.std.specs.List.{flat_map, AllByRecursion}
 use Rattle.std.proofs.ByRecursion.{All-append, all-has}
 use Rattle.text.specs.declared.line.Rule.{Rule}
 use Rattle.text.specs.declared.line.Rule.TheVariants.{Order, Notice}
@@ -25,11 +25,11 @@ Free (number most ∷ ps) = Free ps
 Free (wagons ∷ ps) = Free ps
 Free (rising ∷ ps) = ⊥
 
-list_free : (most p : ℕ) (dss : List (List ℕ)) → All (Not Falls) (list_marks most false p 0 dss)
+list_free : (most p : ℕ) (dss : List (List ℕ)) → AllByRecursion (Not Falls) (list_marks most false p 0 dss)
 list_free most p [] = tt
 list_free most p (ds ∷ dss) = ((λ lt. omega arith), list_free most (p + 1 + length ds) dss)
 
-marks_free : (ps : List Part) → Free ps → (r : Filling ps) (p : ℕ) → All (Not Falls) (marks ps r p)
+marks_free : (ps : List Part) → Free ps → (r : Filling ps) (p : ℕ) → AllByRecursion (Not Falls) (marks ps r p)
 marks_free [] free r p = tt
 marks_free (word w ∷ ps) free r p = marks_free ps free r (p + length w)
 marks_free (number most ∷ ps) free r p = ((λ lt. omega arith), marks_free ps free r.1 (p + length r.0))
@@ -40,7 +40,7 @@ marks_free (rising ∷ ps) free r p = absurd free
 abbrev FreeForm : Form → Type 0
 FreeForm f = Free f.parts
 
-rules_free : All FreeForm rule_forms
+rules_free : AllByRecursion FreeForm rule_forms
 rules_free = (tt, (tt, tt))
 
 -- so none is refused for not rising

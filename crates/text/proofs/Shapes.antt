@@ -2,7 +2,7 @@
 use Rattle.std.proofs.Common.{◌≡◌, ℕ, zero, suc, ◌+◌, ◌-◌, ◌≤◌, Bool, true, false, cond, eqb, ◌⊎◌, List, [], ◌∷◌, ◌++◌, length, take, Err, sym, refl, ap, ◌∙◌, subst, inl, inr, ⊎_elim, arith}
 use Rattle.std.proofs.lemmas.List.{append_assoc, length-append}
 use Rattle.std.proofs.lemmas.Bool.{cases_Bool, cond_both, eqb-true}
-use Rattle.std.specs.List.{flat_map, AllByRecursion as All}
+use Rattle.std.specs.List.{flat_map, AllByRecursion}
 use Rattle.grade.specs.declared.upto.UpTo.{UpTo}
 use Rattle.text.specs.declared.line.Line.{Line}
 use Rattle.text.specs.declared.refusal.LineRefusal.TheVariants.{Syntax}
@@ -73,7 +73,7 @@ Number L s = (ds : List ℕ) × Numeral ds × (t : List ℕ) × L t × (s ≡ ds
 
 -- at most n numbers, a blank before each, and one of L behind them
 abbrev Lists : ℕ → Texts → Texts
-Lists n L s = (dss : List (List ℕ)) × All Numeral dss × (length dss ≤ n) × (t : List ℕ) × L t × (s ≡ flat_map blank_digits dss ++ t)
+Lists n L s = (dss : List (List ℕ)) × AllByRecursion Numeral dss × (length dss ≤ n) × (t : List ℕ) × L t × (s ≡ flat_map blank_digits dss ++ t)
 
 abbrev Told : Texts → Next → Type 0
 Told L next = (s : List ℕ) (p over falls : ℕ) → Tells L s p (next s p over falls)

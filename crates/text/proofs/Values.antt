@@ -1,7 +1,7 @@
 -- The values of a line: a filling within the limits is the text of what it means, each line has such a filling, and its text
 -- is short. Assumes nothing.
 use Rattle.std.proofs.Common.{◌≡◌, ℕ, ◌+◌, ◌*◌, ◌^◌, ◌<◌, ◌≤◌, Bool, true, false, ltb, List, [], ◌∷◌, ◌++◌, map, length, decimal, sym, refl, ap, ◌∙◌, subst, ap₂, arith, rules}
-use Rattle.std.specs.List.{ContainsAt as Has, flat_map, AllByRecursion as All}
+use Rattle.std.specs.List.{ContainsAt as Has, flat_map, AllByRecursion}
 use Rattle.std.proofs.lemmas.List.{length-append, length-map}
 use Rattle.std.proofs.lemmas.Bool.{cond-false, le-ltb}
 use Rattle.std.proofs.ByRecursion.{All-append, all-has, All-weaker}
@@ -34,27 +34,27 @@ abbrev pub Fits : (ps : List Part) → Filling ps → Type 0
 Fits [] r = Unit {0}
 Fits (word w ∷ ps) r = Fits ps r
 Fits (number most ∷ ps) r = (value r.0 ≤ most) × Fits ps r.1
-Fits (wagons ∷ ps) r = All (λ n. n ≤ 31) (map value r.0) × Fits ps r.1
+Fits (wagons ∷ ps) r = AllByRecursion (λ n. n ≤ 31) (map value r.0) × Fits ps r.1
 Fits (rising ∷ ps) r = Rising 0 64 (map value r.0) × Fits ps r.1
 
 -- each number is within the limit
 abbrev pub Under : ℕ → List ℕ → Type 0
-Under most ns = All (λ n. n ≤ most) ns
+Under most ns = AllByRecursion (λ n. n ≤ most) ns
 
 rising_under : (ns : List ℕ) → Rising 0 64 ns → Under 63 ns
 rising_under ns r = All-weaker (λ n. n < 64) (λ n. n ≤ 63) (λ n lt. omega arith) ns (rising_all 0 64 ns r)
 
 -- the marks of a filling say whether it fits
 
-all_split : {X : Type 0} (P : X → Type 0) (xs ys : List X) → All P (xs ++ ys) → All P xs × All P ys
+all_split : {X : Type 0} (P : X → Type 0) (xs ys : List X) → AllByRecursion P (xs ++ ys) → AllByRecursion P xs × AllByRecursion P ys
 all_split P [] ys h = (tt, h)
 all_split P (x ∷ xs) ys h = let t = all_split P xs ys h.1 in ((h.0, t.0), t.1)
 
 abbrev Low : List Mark → Type 0
-Low ms = All (λ m. Above m → ⊥) ms
+Low ms = AllByRecursion (λ m. Above m → ⊥) ms
 
 abbrev Rises : List Mark → Type 0
-Rises ms = All (λ m. Falls m → ⊥) ms
+Rises ms = AllByRecursion (λ m. Falls m → ⊥) ms
 
 list_low : (most : ℕ) (rise : Bool) (dss : List (List ℕ)) (p least : ℕ) → Low (list_marks most rise p least dss) → Under most (map value dss)
 list_low most rise [] p least h = tt
@@ -64,7 +64,7 @@ list_rises : (dss : List (List ℕ)) (p least : ℕ) → Low (list_marks 63 true
 list_rises [] p least h f = tt
 list_rises (ds ∷ dss) p least h f = (omega (arith, f.0), (omega (arith, h.0), list_rises dss _ _ h.1 f.1))
 
-pub fits_from_marks : (ps : List Part) (r : Filling ps) (p : ℕ) → All (λ m. Above m → ⊥) (marks ps r p) → All (λ m. Falls m → ⊥) (marks ps r p) → Fits ps r
+pub fits_from_marks : (ps : List Part) (r : Filling ps) (p : ℕ) → AllByRecursion (λ m. Above m → ⊥) (marks ps r p) → AllByRecursion (λ m. Falls m → ⊥) (marks ps r p) → Fits ps r
 fits_from_marks [] r p h f = tt
 fits_from_marks (word w ∷ ps) r p h f = fits_from_marks ps r _ h f
 fits_from_marks (number most ∷ ps) r p h f = (omega (arith, h.0), fits_from_marks ps r.1 _ h.1 f.1)
@@ -89,7 +89,7 @@ rising_list : (most top : ℕ) (dss : List (List ℕ)) (p least : ℕ) → Risin
 rising_list most top [] p least h = tt
 rising_list most top (ds ∷ dss) p least h = ((λ a. omega arith), rising_list most top dss _ _ h.1.1)
 
-pub marks_from_fits : (ps : List Part) (r : Filling ps) → Fits ps r → (p : ℕ) → All (λ m. Above m → ⊥) (marks ps r p) × All (λ m. Falls m → ⊥) (marks ps r p)
+pub marks_from_fits : (ps : List Part) (r : Filling ps) → Fits ps r → (p : ℕ) → AllByRecursion (λ m. Above m → ⊥) (marks ps r p) × AllByRecursion (λ m. Falls m → ⊥) (marks ps r p)
 marks_from_fits [] r h p = (tt, tt)
 marks_from_fits (word w ∷ ps) r h p = marks_from_fits ps r h _
 marks_from_fits (number most ∷ ps) r h p =
@@ -115,7 +115,7 @@ joined_map : {X Y : Type 0} (f : Y → List ℕ) (g : X → Y) (xs : List X) →
 joined_map f g [] = refl
 joined_map f g (x ∷ xs) = ap (λ t. f (g x) ++ t) (joined_map f g xs)
 
-joined_digits : (most : ℕ) (dss : List (List ℕ)) → most < 10000 → All Numeral dss → Under most (map value dss) → flat_map blank_digits dss ≡ flat_map blank_number (map value dss)
+joined_digits : (most : ℕ) (dss : List (List ℕ)) → most < 10000 → AllByRecursion Numeral dss → Under most (map value dss) → flat_map blank_digits dss ≡ flat_map blank_number (map value dss)
 joined_digits most [] small n h = refl
 joined_digits most (ds ∷ dss) small n h =
     ap₂ (λ s t. (32 ∷ s) ++ t) (sym (decimal_numeral ds n.0 (omega (arith, h.0)))) (joined_digits most dss small n.1 h.1)
@@ -160,7 +160,7 @@ filled_fits (rising ∷ ps) small r pr h =
     in
     (ap₂ ◌++◌ e t.0, (subst (λ ms. with_all 0 ms < 2 ^ 64) (sym k) (with_all_fits ns h.0), t.1))
 
-pub filled_spelled : (ps : List Part) → Small ps → (r : Filling ps) → Proper ps r → (p : ℕ) → All (λ m. Above m → ⊥) (marks ps r p) → All (λ m. Falls m → ⊥) (marks ps r p) → (filled ps r ≡ spelled ps (meant ps r)) × Sized ps (meant ps r)
+pub filled_spelled : (ps : List Part) → Small ps → (r : Filling ps) → Proper ps r → (p : ℕ) → AllByRecursion (λ m. Above m → ⊥) (marks ps r p) → AllByRecursion (λ m. Falls m → ⊥) (marks ps r p) → (filled ps r ≡ spelled ps (meant ps r)) × Sized ps (meant ps r)
 filled_spelled ps small r pr p low rises = filled_fits ps small r pr (fits_from_marks ps r p low rises)
 
 -- the filling that values stand in
@@ -179,7 +179,7 @@ upto_under most (x ∷ xs) = (x.fits, upto_under most xs)
 pub members_under : (F : ℕ) → Under 63 (members F)
 members_under F = rising_under (members F) (rising_members F)
 
-numeral_decimals : (most : ℕ) (ns : List ℕ) → most < 10000 → Under most ns → All Numeral (map decimal ns)
+numeral_decimals : (most : ℕ) (ns : List ℕ) → most < 10000 → Under most ns → AllByRecursion Numeral (map decimal ns)
 numeral_decimals most [] small h = tt
 numeral_decimals most (n ∷ ns) small h = (numeral_decimal n (omega arith), numeral_decimals most ns small h.1)
 
@@ -260,7 +260,7 @@ meant_written (rising ∷ ps) small v sized =
     in
     λ i. (e i, meant_written ps small v.1 sized.1 i)
 
-pub spelled_filled : (ps : List Part) → Small ps → (v : Values ps) → Sized ps v → (r : Filling ps) × (Proper ps r × ((filled ps r ≡ spelled ps v) × ((meant ps r ≡ v) × ((p : ℕ) → All (λ m. Above m → ⊥) (marks ps r p) × All (λ m. Falls m → ⊥) (marks ps r p)))))
+pub spelled_filled : (ps : List Part) → Small ps → (v : Values ps) → Sized ps v → (r : Filling ps) × (Proper ps r × ((filled ps r ≡ spelled ps v) × ((meant ps r ≡ v) × ((p : ℕ) → AllByRecursion (λ m. Above m → ⊥) (marks ps r p) × AllByRecursion (λ m. Falls m → ⊥) (marks ps r p)))))
 spelled_filled ps small v sized =
     (written ps v, (written_proper ps small v, (filled_written ps v, (meant_written ps small v sized, marks_from_fits ps (written ps v) (written_fits ps small v)))))
 
@@ -296,20 +296,20 @@ length_spelled (rising ∷ ps) small v =
 
 -- the seven forms
 
-small_forms : All (λ f. Small f.parts) forms
+small_forms : AllByRecursion (λ f. Small f.parts) forms
 small_forms = search rules
 
 pub small_form : (f : Form) → Has forms f → Small f.parts
 small_form f among = all-has (λ f. Small f.parts) forms f small_forms among
 
-short_forms : All (λ f. room f.parts ≤ 512) forms
+short_forms : AllByRecursion (λ f. room f.parts ≤ 512) forms
 short_forms = search rules
 
 -- a line of this form is within the limits where its values are, and its text is theirs
 abbrev pub Tells : Form → Type 0
 Tells f = (v : Values f.parts) → Sized f.parts v → Within (f.line v) × (text (f.line v) ≡ spelled f.parts v)
 
-text_forms : All Tells forms
+text_forms : AllByRecursion Tells forms
 text_forms =
     ((λ v s. (tt, refl)), ((λ v s. (tt, refl)), ((λ v s. (s.0, refl)), ((λ v s. (tt, refl)), ((λ v s. (tt, refl)), ((λ v s. (tt, refl)), ((λ v s. (tt, refl)), tt)))))))
 
@@ -320,7 +320,7 @@ text_form f among = all-has Tells forms f text_forms among
 abbrev pub Limits : Form → Type 0
 Limits f = (v : Values f.parts) → Within (f.line v) → Sized f.parts v
 
-sized_forms : All Limits forms
+sized_forms : AllByRecursion Limits forms
 sized_forms = ((λ v w. tt), ((λ v w. tt), ((λ v w. (w, tt)), ((λ v w. tt), ((λ v w. tt), ((λ v w. tt), ((λ v w. tt), tt)))))))
 
 pub sized_form : (f : Form) → Has forms f → Limits f

@@ -2,7 +2,7 @@
 use Rattle.std.proofs.Common.{◌≡◌, ℕ, ◌+◌, ◌<◌, ◌≤◌, Bool, true, false, cond, eqb, ltb, ◌⊎◌, List, [], ◌∷◌, ◌++◌, length, Ok, Err, sym, refl, ap, ◌∙◌, subst, inl, inr, ⊎_elim, arith}
 use Rattle.std.proofs.lemmas.Bool.{cond-true, cond-false, cases_Bool, ne_eqb, ltb-true, ltb-false, le-ltb}
 use Rattle.std.proofs.ByRecursion.{All-append}
-use Rattle.std.specs.List.{flat_map, AllByRecursion as All}
+use Rattle.std.specs.List.{flat_map, AllByRecursion}
 use Rattle.text.specs.declared.line.Line.{Line}
 use Rattle.text.specs.declared.refusal.LineRefusal.TheVariants.{TooLarge, NotRising}
 use Rattle.text.specs.Numerals.{value}
@@ -14,7 +14,7 @@ use Rattle.text.proofs.Filled.{settled, above, fell, first, kept_list, kept_mark
 abbrev pub Not : {X : Type 0} → (X → Type 0) → X → Type 0
 Not Bad x = Bad x → ⊥
 
-pub all_parts : {X : Type 0} (P : X → Type 0) (xs ys : List X) → All P (xs ++ ys) → All P xs × All P ys
+pub all_parts : {X : Type 0} (P : X → Type 0) (xs ys : List X) → AllByRecursion P (xs ++ ys) → AllByRecursion P xs × AllByRecursion P ys
 all_parts P [] ys h = (tt, h)
 all_parts P (x ∷ xs) ys h = let r = all_parts P xs ys h.1 in ((h.0, r.0), r.1)
 
@@ -22,7 +22,7 @@ all_parts P (x ∷ xs) ys h = let r = all_parts P xs ys h.1 in ((h.0, r.0), r.1)
 kept_within : (most v : ℕ) → (most < v → ⊥) → cond (ltb most v) 0 v ≡ v
 kept_within most v h = cond-false (ltb most v) 0 v (le-ltb most v (omega arith))
 
-list_within : (most : ℕ) (rise : Bool) (p least : ℕ) (dss : List (List ℕ)) → All (Not Above) (list_marks most rise p least dss) → kept_list most rise p least dss ≡ list_marks most rise p least dss
+list_within : (most : ℕ) (rise : Bool) (p least : ℕ) (dss : List (List ℕ)) → AllByRecursion (Not Above) (list_marks most rise p least dss) → kept_list most rise p least dss ≡ list_marks most rise p least dss
 list_within most rise p least [] h = refl
 list_within most rise p least (ds ∷ dss) h =
     let e = kept_within most (value ds) h.0 in
@@ -30,14 +30,14 @@ list_within most rise p least (ds ∷ dss) h =
     (λ i. record { place = p + 1; limit = most; least = least; value = e i } ∷ kept_list most rise q (cond rise (e i + 1) 0) dss)
     ∙ (λ i. record { place = p + 1; limit = most; least = least; value = value ds } ∷ list_within most rise q (cond rise (value ds + 1) 0) dss h.1 i)
 
-behind_within : (most : ℕ) (rise : Bool) (p : ℕ) (dss : List (List ℕ)) (ks ms : List Mark) → (All (Not Above) ms → ks ≡ ms) → All (Not Above) (list_marks most rise p 0 dss ++ ms) → kept_list most rise p 0 dss ++ ks ≡ list_marks most rise p 0 dss ++ ms
+behind_within : (most : ℕ) (rise : Bool) (p : ℕ) (dss : List (List ℕ)) (ks ms : List Mark) → (AllByRecursion (Not Above) ms → ks ≡ ms) → AllByRecursion (Not Above) (list_marks most rise p 0 dss ++ ms) → kept_list most rise p 0 dss ++ ks ≡ list_marks most rise p 0 dss ++ ms
 behind_within most rise p dss ks ms to h =
     let hs = all_parts (Not Above) (list_marks most rise p 0 dss) ms h in
     let e = list_within most rise p 0 dss hs.0 in
     let f = to hs.1 in
     λ i. e i ++ f i
 
-marks_within : (ps : List Part) (r : Filling ps) (p : ℕ) → All (Not Above) (marks ps r p) → kept_marks ps r p ≡ marks ps r p
+marks_within : (ps : List Part) (r : Filling ps) (p : ℕ) → AllByRecursion (Not Above) (marks ps r p) → kept_marks ps r p ≡ marks ps r p
 marks_within [] r p h = refl
 marks_within (word w ∷ ps) r p h = marks_within ps r (p + length w) h
 marks_within (number most ∷ ps) r p h =
@@ -54,11 +54,11 @@ marks_within (rising ∷ ps) r p h =
 abbrev Placed : Mark → Type 0
 Placed m = 1 ≤ m.place
 
-list_placed : (most : ℕ) (rise : Bool) (p least : ℕ) (dss : List (List ℕ)) → All Placed (list_marks most rise p least dss)
+list_placed : (most : ℕ) (rise : Bool) (p least : ℕ) (dss : List (List ℕ)) → AllByRecursion Placed (list_marks most rise p least dss)
 list_placed most rise p least [] = tt
 list_placed most rise p least (ds ∷ dss) = (omega arith, list_placed most rise (p + 1 + length ds) (cond rise (value ds + 1) 0) dss)
 
-placed : (ps : List Part) (r : Filling ps) (p : ℕ) → 1 ≤ p → All Placed (marks ps r p)
+placed : (ps : List Part) (r : Filling ps) (p : ℕ) → 1 ≤ p → AllByRecursion Placed (marks ps r p)
 placed [] r p le = tt
 placed (word w ∷ ps) r p le = placed ps r (p + length w) (omega arith)
 placed (number most ∷ ps) r p le = (le, placed ps r.1 (p + length r.0) (omega arith))
@@ -74,7 +74,7 @@ first_stays test place (m ∷ ms) le =
 
 module _ (Bad : Mark → Type 0) (test : Mark → Bool) (hit : (m : Mark) → test m ≡ true → Bad m) (miss : (m : Mark) → test m ≡ false → Bad m → ⊥) where
   -- what is noted in the end is the place of the first bad mark, or 0
-  first_cases : (ms : List Mark) → All Placed ms → (All (Not Bad) ms × (first test 0 ms ≡ 0)) ⊎ ((1 ≤ first test 0 ms) × FirstAt Bad ms (first test 0 ms))
+  first_cases : (ms : List Mark) → AllByRecursion Placed ms → (AllByRecursion (Not Bad) ms × (first test 0 ms ≡ 0)) ⊎ ((1 ≤ first test 0 ms) × FirstAt Bad ms (first test 0 ms))
   first_cases [] h = inl (tt, refl)
   first_cases (m ∷ ms) h =
       ⊎_elim
@@ -91,7 +91,7 @@ module _ (Bad : Mark → Type 0) (test : Mark → Bool) (hit : (m : Mark) → te
 
 module _ (Bad : Mark → Type 0) where
   -- one mark is the first bad one at most
-  pub first_none : (ms : List Mark) (q : ℕ) → All (Not Bad) ms → FirstAt Bad ms q → ⊥
+  pub first_none : (ms : List Mark) (q : ℕ) → AllByRecursion (Not Bad) ms → FirstAt Bad ms q → ⊥
   first_none [] q h f = f
   first_none (m ∷ ms) q h (inl f) = h.0 f.0
   first_none (m ∷ ms) q h (inr f) = first_none ms q h.1 f.1
@@ -105,12 +105,12 @@ module _ (Bad : Mark → Type 0) where
 
 -- what is said of a line with these marks
 pub data Verdict (l : Line) (ms : List Mark) (x : Outcome) : Type 0 where
-  fine : All (Not Above) ms → All (Not Falls) ms → x ≡ Ok l → Verdict l ms x
+  fine : AllByRecursion (Not Above) ms → AllByRecursion (Not Falls) ms → x ≡ Ok l → Verdict l ms x
   large : (q : ℕ) → FirstAt Above ms q → x ≡ Err (TooLarge q) → Verdict l ms x
-  falling : (q : ℕ) → All (Not Above) ms → FirstAt Falls ms q → x ≡ Err (NotRising q) → Verdict l ms x
+  falling : (q : ℕ) → AllByRecursion (Not Above) ms → FirstAt Falls ms q → x ≡ Err (NotRising q) → Verdict l ms x
 
-module _ (l : Line) (ms : List Mark) (x : Outcome) (here : All Placed ms) where
-  settled_within : All (Not Above) ms → x ≡ settled l 0 (first fell 0 ms) → Verdict l ms x
+module _ (l : Line) (ms : List Mark) (x : Outcome) (here : AllByRecursion Placed ms) where
+  settled_within : AllByRecursion (Not Above) ms → x ≡ settled l 0 (first fell 0 ms) → Verdict l ms x
   settled_within n e =
       ⊎_elim
       (λ m. fine n m.0 (e ∙ ap (λ f. settled l 0 f) m.1))

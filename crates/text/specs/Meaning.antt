@@ -1,6 +1,6 @@
 -- What a text says, in the words of the forms: it is the text of a line, or it is refused in one of three ways.
 use Rattle.std.specs.Prelude.{◌≡◌, ℕ, ◌+◌, ◌-◌, ◌^◌, ◌<◌, ◌≤◌, Bool, true, false, cond, ◌⊎◌, List, [], ◌∷◌, ◌++◌, length, take, Ok, Err}
-use Rattle.std.specs.List.{ContainsAt as Has, flat_map, AllByRecursion as All}
+use Rattle.std.specs.List.{ContainsAt as Has, flat_map, AllByRecursion}
 use Rattle.text.specs.declared.line.Line.{Line}
 use Rattle.text.specs.declared.line.Line.TheVariants.{Order, Notice, Open, Watch, Link, End, Bare}
 use Rattle.text.specs.declared.refusal.LineRefusal.{LineRefusal}
@@ -22,8 +22,8 @@ abbrev pub Proper : (ps : List Part) → Filling ps → Type 0
 Proper [] r = Unit {0}
 Proper (word w ∷ ps) r = Proper ps r
 Proper (number most ∷ ps) r = Numeral r.0 × Proper ps r.1
-Proper (wagons ∷ ps) r = All Numeral r.0 × ((length r.0 ≤ 2) × Proper ps r.1)
-Proper (rising ∷ ps) r = All Numeral r.0 × Proper ps r.1
+Proper (wagons ∷ ps) r = AllByRecursion Numeral r.0 × ((length r.0 ≤ 2) × Proper ps r.1)
+Proper (rising ∷ ps) r = AllByRecursion Numeral r.0 × Proper ps r.1
 
 -- digits behind a blank
 abbrev pub blank_digits : List ℕ → List ℕ
@@ -113,7 +113,7 @@ abbrev pub Refuses : List Form → List ℕ → LineRefusal → Type 0
 Refuses fs s (Syntax q) = ((512 < length s) × (q ≡ 513)) ⊎ ((length s ≤ 512) × Stops fs s q)
 Refuses fs s (TooLarge q) = (length s ≤ 512) × ((h : Shape fs s) × FirstAt Above (numbers h) q)
 Refuses fs s (NotRising q) =
-    (length s ≤ 512) × ((h : Shape fs s) × ((All (λ m. Above m → ⊥) (numbers h)) × FirstAt Falls (numbers h) q))
+    (length s ≤ 512) × ((h : Shape fs s) × ((AllByRecursion (λ m. Above m → ⊥) (numbers h)) × FirstAt Falls (numbers h) q))
 
 -- what a text says, and just this, where it may have any of these forms
 abbrev pub SaysAs : List Form → List ℕ → Outcome → Type 0

@@ -1,6 +1,6 @@
 -- Over rows that stand for the rest of a run, what unfolding tells is the run's next move.
 use Rattle.std.proofs.Common.{◌≡◌, ℕ, suc, ◌≤◌, List, [], ◌∷◌, ◌++◌, map, length, Some, None, Ok, Err, Option, Result, sym, refl, ap, ◌∙◌, subst, ⊎_elim, arith}
-use Rattle.std.specs.List.{AllByRecursion as All}
+use Rattle.std.specs.List.{AllByRecursion}
 use Rattle.grade.specs.declared.grade.Grade.{Ghosts}
 use Rattle.text.specs.declared.line.OrderLine.{OrderLine}
 use Rattle.text.specs.declared.line.NoticeLine.{NoticeLine}
@@ -51,7 +51,7 @@ tells : (s : Shown) (number : ℕ) (y : Position) → number ≡ s.number → y.
 tells s number y numbers modes phases lanes =
     sym (ap (λ k. made k y.mode y.phase (length y.lane)) numbers ∙ ap (λ k. made s.number k y.phase (length y.lane)) modes ∙ ap (λ k. made s.number s.after.mode k (length y.lane)) phases ∙ ap (made s.number s.after.mode s.after.phase) lanes)
 
-last_of : (P : ℕ → Type 0) (js ks : List ℕ) (k : ℕ) → All P (js ++ (k ∷ ks)) → P k
+last_of : (P : ℕ → Type 0) (js ks : List ℕ) (k : ℕ) → AllByRecursion P (js ++ (k ∷ ks)) → P k
 last_of P [] ks k all = all.0
 last_of P (j ∷ js) ks k all = last_of P js ks k all.1
 
@@ -86,7 +86,7 @@ module _ {G : Type 0} (m : Ghosts G) (ls : List Line) (rows : List (TableRow G))
       absurd (omega arith)
 
   -- the rows that an order's row makes way for have room where it has
-  parts_roomy : (ws : Wagons) (a b k : ℕ) (ks : List ℕ) (places : ℕ) → All (Earlier m rows n k) (parts ws a b) → Roomy m rows places (k ∷ ks) → Roomy m rows places (parts ws a b ++ ks) × (length (parts ws a b ++ ks) ≤ places)
+  parts_roomy : (ws : Wagons) (a b k : ℕ) (ks : List ℕ) (places : ℕ) → AllByRecursion (Earlier m rows n k) (parts ws a b) → Roomy m rows places (k ∷ ks) → Roomy m rows places (parts ws a b ++ ks) × (length (parts ws a b ++ ks) ≤ places)
   parts_roomy Zero a b k ks places earlier (room, roomy) = (roomy, omega arith)
   parts_roomy (One x) a b k ks places (first, more) (room, roomy) = let less = first.1 in ((omega arith, roomy), omega arith)
   parts_roomy (Two x y) a b k ks places (first, (second, more)) (room, roomy) = let less = first.1 in let lower = second.1 in ((omega arith, (omega arith, roomy)), omega arith)
@@ -128,18 +128,18 @@ module _ {G : Type 0} (m : Ghosts G) (ls : List Line) (rows : List (TableRow G))
       }
 
   -- nothing but lines on the stack: none is left
-  lines_none : {x : Position} {ks : List ℕ} {ms : List Move} → StandsFor m ls rows n x ks ms → All (LineRow m rows n) ks → ms ≡ []
+  lines_none : {x : Position} {ks : List ℕ} {ms : List Move} → StandsFor m ls rows n x ks ms → AllByRecursion (LineRow m rows n) ks → ms ≡ []
   lines_none (arrived held lines) all = refl
   lines_none (on_order {o = o} {a = a} {b = b} stands in_force lt why earlier more) ((low, line), others) =
       let e : reason.Line ≡ reason.Order o.number.value a b = sym line ∙ why in let never : ◌≡◌ {A = ℕ} 0 1 = cc in absurd (omega arith)
   lines_none (on_notice {v = v} {a = a} stands allows lt why earlier more) ((low, line), others) =
       let e : reason.Line ≡ reason.Notice v.number.value a = sym line ∙ why in let never : ◌≡◌ {A = ℕ} 0 1 = cc in absurd (omega arith)
 
-  all_lines : {x : Position} {ks : List ℕ} → StandsFor m ls rows n x ks [] → All (LineRow m rows n) ks
+  all_lines : {x : Position} {ks : List ℕ} → StandsFor m ls rows n x ks [] → AllByRecursion (LineRow m rows n) ks
   all_lines (arrived held lines) = lines
 
-  not_topmost : (all : List ℕ) (k : ℕ) (ks : List ℕ) → All (LineRow m rows n) all → Topmost m rows n all k ks → ⊥
-  not_topmost all k ks lines top = top.other (last_of (LineRow m rows n) top.passed ks k (subst (All (LineRow m rows n)) top.is lines))
+  not_topmost : (all : List ℕ) (k : ℕ) (ks : List ℕ) → AllByRecursion (LineRow m rows n) all → Topmost m rows n all k ks → ⊥
+  not_topmost all k ks lines top = top.other (last_of (LineRow m rows n) top.passed ks k (subst (AllByRecursion (LineRow m rows n)) top.is lines))
 
   -- rows that stand for a move begin with it
   begins : {x : Position} {v : Move} {ms : List Move} {all : List ℕ} → StandsFor m ls rows n x all (v ∷ ms) → (k : ℕ) × (ks : List ℕ) × (all ≡ k ∷ ks)
@@ -147,7 +147,7 @@ module _ {G : Type 0} (m : Ghosts G) (ls : List Line) (rows : List (TableRow G))
   begins (on_notice {k = k} {ks = ks} stands allows lt why earlier more) = (k, ks, refl)
 
   -- where the stack begins with a move, that is the topmost
-  topmost_first : (k : ℕ) (ks : List ℕ) (l : ℕ) (ls' : List ℕ) → (LineRow m rows n k → ⊥) → (passed : List ℕ) → All (LineRow m rows n) passed → k ∷ ks ≡ passed ++ (l ∷ ls') → (k ≡ l) × (ks ≡ ls')
+  topmost_first : (k : ℕ) (ks : List ℕ) (l : ℕ) (ls' : List ℕ) → (LineRow m rows n k → ⊥) → (passed : List ℕ) → AllByRecursion (LineRow m rows n) passed → k ∷ ks ≡ passed ++ (l ∷ ls') → (k ≡ l) × (ks ≡ ls')
   topmost_first k ks l ls' other [] lines is = (cc, cc)
   topmost_first k ks l ls' other (j ∷ js) lines is = let same : k ≡ j = cc in absurd (other (subst (LineRow m rows n) (sym same) lines.0))
 

@@ -1,6 +1,6 @@
 -- Paths over a table of the saturated rows stand for runs.
 use Rattle.std.proofs.Common.{◌≡◌, ℕ, zero, suc, ◌+◌, ◌<◌, ◌≤◌, List, [], ◌∷◌, ◌++◌, map, length, get_or, sym, refl, ap, ◌∙◌, subst, append_assoc, arith}
-use Rattle.std.specs.List.{AllByRecursion as All}
+use Rattle.std.specs.List.{AllByRecursion}
 use Rattle.grade.specs.declared.grade.Grade.{Ghosts}
 use Rattle.grade.specs.Lawful.{Lawful}
 use Rattle.grade.proofs.Joins.{run_grade_cons}
@@ -55,7 +55,7 @@ module _ {G : Type 0} (m : Ghosts G) (ls : List Line) (Fs : List ℕ) (rows : Li
   -- what places stand for from a state: from a node, link lines alone
   abbrev Good : State → List ℕ → List ℕ → List Move → Type 0
   Good (head p F) w ks ms = StandsFor m ls rows n (at p F w) ks ms
-  Good (node t) w ks ms = Leads ls t w × (All (LineRow m rows n) ks × (ms ≡ []))
+  Good (node t) w ks ms = Leads ls t w × (AllByRecursion (LineRow m rows n) ks × (ms ≡ []))
 
   -- moves that a row stands for, whatever comes behind it
   record RowGood (k : ℕ) : Type 0 where
@@ -107,7 +107,7 @@ module _ {G : Type 0} (m : Ghosts G) (ls : List Line) (Fs : List ℕ) (rows : Li
                 (first.shows s t x (ap (row_of Fs) at.here ∙ is_y) (v ++ w) (front is ps ++ ks) (rest.moves ++ ms) (rest.shows w ks ms behind));
           }
 
-      all_earlier : (is : List Row) (ps : List ℕ) (g : G) → Rests m Fs Before is ps g → All (Earlier m rows n k) (front is ps)
+      all_earlier : (is : List Row) (ps : List ℕ) (g : G) → Rests m Fs Before is ps g → AllByRecursion (Earlier m rows n k) (front is ps)
       all_earlier [] ps g best = tt
       all_earlier (i ∷ is) [] g never = tt
       all_earlier (i ∷ is) (p ∷ ps) g (y, h, at, is_y, rests, joins) = (is_earlier p y at, all_earlier is ps h rests)
@@ -134,7 +134,7 @@ module _ {G : Type 0} (m : Ghosts G) (ls : List Line) (Fs : List ℕ) (rows : Li
       by_rule (reason.Order number a b) is (watch_rule v F stands is_open) named gives rest rests graded = absurd named
       by_rule (reason.Order number a b) is (order_rule o F {is = js} {s = u} stands is_open in_force path) named gives rest rests graded =
           let chain : ChainGood (head o.to.value F) (laid_down o) (parts o.wagons a b) u rest = subst (λ qs. ChainGood (head o.to.value F) (laid_down o) qs u rest) (front_parts o.wagons a b path) (chain_good path (a ∷ b ∷ []) rest rests) in
-          let earlier : All (Earlier m rows n k) (parts o.wagons a b) = subst (All (Earlier m rows n k)) (front_parts o.wagons a b path) (all_earlier js (a ∷ b ∷ []) rest rests) in
+          let earlier : AllByRecursion (Earlier m rows n k) (parts o.wagons a b) = subst (AllByRecursion (Earlier m rows n k)) (front_parts o.wagons a b path) (all_earlier js (a ∷ b ∷ []) rest rests) in
           let mv = order_move o in
           record {
             moves = mv ∷ chain.moves;

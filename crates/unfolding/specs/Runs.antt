@@ -1,6 +1,6 @@
 -- Rows, by their reasons, stand for the moves of a run.
 use Rattle.std.specs.Prelude.{◌≡◌, ℕ, ◌<◌, List, [], ◌∷◌, ◌++◌}
-use Rattle.std.specs.List.{AllByRecursion as All}
+use Rattle.std.specs.List.{AllByRecursion}
 use Rattle.grade.specs.declared.grade.Grade.{Ghosts}
 use Rattle.text.specs.declared.line.OrderLine.{OrderLine}
 use Rattle.text.specs.declared.line.NoticeLine.{NoticeLine}
@@ -34,9 +34,9 @@ module _ {G : Type 0} (m : Ghosts G) (ls : List Line) (rows : List (TableRow G))
   -- `StandsFor x ks ms`: the rows at the places ks, the top first, stand for the moves ms of a run from x into the watch.
   -- Rows of lines stand for none. A row by an order or a notice stands for its move and then for what the rows that it rests on stand for, in its place.
   pub data StandsFor : Position → List ℕ → List Move → Type 0 where
-    arrived : {x : Position} {ks : List ℕ} → Watched ls x → All (LineRow m rows n) ks → StandsFor x ks []
+    arrived : {x : Position} {ks : List ℕ} → Watched ls x → AllByRecursion (LineRow m rows n) ks → StandsFor x ks []
     on_order : {o : OrderLine} {F : ℕ} {w : List ℕ} {k : ℕ} {ks : List ℕ} {a b : ℕ} {ms : List Move} → Stands ls (Order o) → InForce F o.number.value → k < n
-        → (row_at m rows k).reason ≡ reason.Order o.number.value a b → All (Earlier m rows n k) (parts o.wagons a b)
+        → (row_at m rows k).reason ≡ reason.Order o.number.value a b → AllByRecursion (Earlier m rows n k) (parts o.wagons a b)
         → StandsFor (at o.to.value F (laid_down o ++ w)) (parts o.wagons a b ++ ks) ms → StandsFor (at o.mode.value F (o.wagon.value ∷ w)) (k ∷ ks) (order_move o ∷ ms)
     on_notice : {v : NoticeLine} {F x : ℕ} {w : List ℕ} {k : ℕ} {ks : List ℕ} {a : ℕ} {ms : List Move} → Stands ls (Notice v) → Allows v F → k < n
         → (row_at m rows k).reason ≡ reason.Notice v.number.value a → Earlier m rows n k a

@@ -1,6 +1,6 @@
 -- What the rows of any table show next.
 use Rattle.std.specs.Prelude.{◌≡◌, ℕ, ◌-◌, ◌<◌, ◌≤◌, ◌⊎◌, List, ◌∷◌, ◌++◌, length, Option, Result, MatchOption, MatchResult, slice_index}
-use Rattle.std.specs.List.{AllByRecursion as All}
+use Rattle.std.specs.List.{AllByRecursion}
 use Rattle.grade.specs.declared.grade.Grade.{Ghosts}
 use Rattle.text.specs.declared.line.OrderLine.{OrderLine}
 use Rattle.text.specs.declared.line.NoticeLine.{NoticeLine}
@@ -30,7 +30,7 @@ module _ {G : Type 0} (m : Ghosts G) (ls : List Line) (rows : List (TableRow G))
     pub stands : Stands ls (Order o)
     pub in_mode : o.mode.value ≡ mode
     pub in_force : InForce phase o.number.value
-    pub earlier : All (Earlier m rows n k) (parts o.wagons a b)
+    pub earlier : AllByRecursion (Earlier m rows n k) (parts o.wagons a b)
     pub room : length (parts o.wagons a b ++ ks) ≤ places
 
   -- .. or the notice
@@ -62,7 +62,7 @@ TopShown m ls rows n list stage after r =
 -- k is the topmost row on the stack that is not a line's, and ks are the rows below it
 pub record Topmost {G : Type 0} (m : Ghosts G) (rows : List (TableRow G)) (n : ℕ) (all : List ℕ) (k : ℕ) (ks : List ℕ) : Type 0 where
   pub passed : List ℕ
-  pub lines : All (LineRow m rows n) passed
+  pub lines : AllByRecursion (LineRow m rows n) passed
   pub is : all ≡ passed ++ (k ∷ ks)
   pub other : LineRow m rows n k → ⊥
 
@@ -77,7 +77,7 @@ pub record RowShown {G : Type 0} (m : Ghosts G) (ls : List Line) (rows : List (T
 module _ {G : Type 0} (m : Ghosts G) (ls : List Line) (rows : List (TableRow G)) (n : ℕ) (list : List ℕ) (stage : Stage) where
   -- no row is left but those of lines
   abbrev pub NoneLeft : Type 0
-  NoneLeft = (stage.length ≤ length list) × All (LineRow m rows n) (stack list stage.length)
+  NoneLeft = (stage.length ≤ length list) × AllByRecursion (LineRow m rows n) (stack list stage.length)
 
   -- there are not so many rows or places, or the topmost row that is not a line's shows nothing
   abbrev pub Broken : Type 0

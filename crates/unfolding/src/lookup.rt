@@ -1,6 +1,6 @@
 // What rows name, looked up where it should be.
 ghost use Rattle.std.specs.Prelude.{◌≡◌, ◌<◌, ◌≤◌, length, Decides, slice_index_or};
-ghost use Rattle.std.specs.List.{AllByRecursion as All};
+ghost use Rattle.std.specs.List.{AllByRecursion};
 ghost use Rattle.book.specs.declared.rule.Rule.TheVariants as rule;
 ghost use Rattle.unfolding.specs.Runs.{parts, Earlier, LineRow};
 
@@ -60,7 +60,7 @@ pub(crate) fn are_earlier<G: Grade>(
     b: usize,
 ) -> bool
     requires { (count ≤ length rows.now) × (place < count) }
-    ensures { Decides result (All (Earlier G.Grade.own rows.now count place) (parts wagons a b)) }
+    ensures { Decides result (AllByRecursion (Earlier G.Grade.own rows.now count place) (parts wagons a b)) }
 {
     match wagons {
         Wagons::Zero => true,

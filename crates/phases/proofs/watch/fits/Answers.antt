@@ -1,5 +1,5 @@
 use Rattle.std.proofs.Common.{◌≤◌, refl, subst, arith}
-use Rattle.std.specs.List.{AllByRecursion as All}
+use Rattle.std.specs.List.{AllByRecursion}
 use Rattle.std.proofs.lemmas.List.{take_all}
 use Rattle.std.proofs.ByRecursion.{All-more, All-get_or}
 use Rattle.std.proofs.lemmas.Bool.{false≢true}
@@ -17,5 +17,5 @@ loop-wagon-preserved c = All-more (λ k. k ≤ 31) c.args.lane.now c.loop-wagon.
 
 pub returns : goal.returns
 returns c =
-    let all = subst (All (λ k. k ≤ 31)) (take_all c.loop-wagon.wagon-index c.args.lane.now c.loop-wagon-test.false) c.loop-wagon.invariant in
+    let all = subst (AllByRecursion (λ k. k ≤ 31)) (take_all c.loop-wagon.wagon-index c.args.lane.now c.loop-wagon-test.false) c.loop-wagon.invariant in
     (λ _. record { mode_fits = c.if-mode-gt15.false; wagons_fit = all; short = c.if-lane-gt32.false }, λ _. refl)

@@ -1,6 +1,6 @@
 use Rattle.std.proofs.Common.{◌≤◌, take}
-use Rattle.std.specs.List.{AllByRecursion as All}
+use Rattle.std.specs.List.{AllByRecursion}
 use Rattle.phases.proofs.watch.fits.Given as goal
 
 abbrev pub invariant-loop-wagon : goal.invariant-loop-wagon
-invariant-loop-wagon l = All (λ k. k ≤ 31) (take l.wagon-index l.lane)
+invariant-loop-wagon l = AllByRecursion (λ k. k ≤ 31) (take l.wagon-index l.lane)

@@ -1,6 +1,6 @@
 use Rattle.std.proofs.Common.{◌≡◌, ◌-◌, ◌<◌, ◌∷◌, ◌++◌, get_or, Some, None, Ok, Err, sym, refl, ap, ◌∙◌, subst, inr, arith}
 use Rattle.std.proofs.lemmas.List.{append-nil}
-use Rattle.std.specs.List.{AllByRecursion as All}
+use Rattle.std.specs.List.{AllByRecursion}
 use Rattle.book.specs.Lines.{lines}
 use Rattle.phases.proofs.Naming.{numbers_stand_once}
 use Rattle.unfolding.specs.Runs.{LineRow}
@@ -17,7 +17,7 @@ returns-then-left-eq0 g c =
     let list = c.args.list.now in
     let p = c.pass_lines-left.ensures in
     let none : stack list c.args.stage.length ≡ p.passed = p.is ∙ ap (λ k. p.passed ++ stack list k) c.if-left-eq0.true ∙ append-nil p.passed in
-    let told : Unfolded m (lines c.args.book.now) c.args.rows.now c.args.count list c.args.stage list (Ok None) = ((c.if-stage-list.false, subst (All (LineRow m c.args.rows.now c.args.count)) (sym none) p.lines), refl) in
+    let told : Unfolded m (lines c.args.book.now) c.args.rows.now c.args.count list c.args.stage list (Ok None) = ((c.if-stage-list.false, subst (AllByRecursion (LineRow m c.args.rows.now c.args.count)) (sym none) p.lines), refl) in
     record { told = told; runs = advances_from m (lines c.args.book.now) c.args.rows.now c.args.count (numbers_stand_once c.args.book.now) list list c.args.stage (Ok None) told refl }
 
 pub returns-in-Ok : goal.returns-in-Ok
