@@ -3,8 +3,6 @@ pub mod Offers
 pub mod Onward
 pub mod Stopping
 pub mod Products
-pub mod Bridge
 pub mod Asking
 pub mod Laying
 pub mod Standing
-pub mod Opened

@@ -1,5 +1,4 @@
 pub mod Cells
 pub mod Layers
-pub mod Runs
 pub mod Answers
-pub mod Outcomes
+pub mod Runs

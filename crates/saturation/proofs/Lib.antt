@@ -5,4 +5,3 @@ pub mod Turns
 pub mod Begins
 pub mod Starting
 pub mod Finishing
-pub mod Finished

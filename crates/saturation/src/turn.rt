@@ -4,8 +4,6 @@ ghost use Rattle.book.specs.Lines.{lines};
 ghost use Rattle.saturation.specs.Work.{Table, Settles, Worked, Turned, Proceeded};
 
 use crate::bring::bring;
-use crate::premise::Premise;
-use crate::progress::Progress;
 use book::tables::Book;
 use grade::grade::Grade;
 use grade::waiting::Waiting;
@@ -17,49 +15,44 @@ fn settle<G: Grade>(
     phases: &[u64],
     rows: &mut [TableRow<G>],
     waiting: &mut [Waiting<G>],
-    progress: Progress,
+    settled: usize,
+    found: usize,
 ) -> Option<usize>
-    requires waits { progress.settled < progress.found }
-    requires table { Table G.Grade.own phases.now (lines book.now) rows.old progress.settled progress.found waiting.old }
-    ensures { MatchOption result ⊥ (λ a. Settles G.Grade.own phases.now (lines book.now) rows.old progress.settled progress.found waiting.old a rows.new waiting.new) }
+    requires waits { settled < found }
+    requires table { Table G.Grade.own phases.now (lines book.now) rows.old settled found waiting.old }
+    ensures { MatchOption result ⊥ (λ a. Settles G.Grade.own phases.now (lines book.now) rows.old settled found waiting.old a rows.new waiting.new) }
 {
     G::agrees();
-    let entry = queue::take(waiting, progress.found - progress.settled)?;
+    let entry = queue::take(waiting, found - settled)?;
     let place = entry.row;
     let mut row = rows[place];
-    row.rank = progress.settled;
+    row.rank = settled;
     rows[place] = row;
     Some(place)
 }
 
 // Settles the best row that waits, and lets wait what it brings. Answers how many rows there are then; None where not all of them
 // have a place.
-fn turn<G: Grade>(
+pub fn turn<G: Grade>(
     book: &Book,
     phases: &[u64],
     rows: &mut [TableRow<G>],
     waiting: &mut [Waiting<G>],
-    progress: Progress,
+    settled: usize,
+    found: usize,
 ) -> Option<usize>
-    requires waits { progress.settled < progress.found }
-    requires worked { Worked G.Grade.own phases.now (lines book.now) rows.old progress.settled progress.found waiting.old }
+    requires waits { settled < found }
+    requires worked { Worked G.Grade.own phases.now (lines book.now) rows.old settled found waiting.old }
     requires few { length phases.now ≤ 256 }
-    ensures { Turned G.Grade.own phases.now (lines book.now) rows.old waiting.old (progress.settled + 1) rows.new waiting.new result }
+    ensures { Turned G.Grade.own phases.now (lines book.now) rows.old waiting.old (settled + 1) rows.new waiting.new result }
 {
-    let place = settle(book, phases, rows, waiting, progress)?;
-    let last = Premise {
-        place,
-        row: rows[place],
-    };
-    let after = Progress {
-        settled: progress.settled + 1,
-        ..progress
-    };
-    bring(book, phases, rows, waiting, after, last)
+    let a = settle(book, phases, rows, waiting, settled, found)?;
+    let x = rows[a];
+    bring(book, phases, rows, waiting, settled + 1, found, a, x)
 }
 
 // Settles `count` more rows, best grade first, or all where there are fewer. Answers how many are settled and how many there are.
-pub(crate) fn proceed<G: Grade>(
+pub fn proceed<G: Grade>(
     book: &Book,
     phases: &[u64],
     rows: &mut [TableRow<G>],
@@ -76,11 +69,7 @@ pub(crate) fn proceed<G: Grade>(
     let mut all = found;
     let mut left = count;
     while left > 0 && done < all {
-        let progress = Progress {
-            settled: done,
-            found: all,
-        };
-        all = turn(book, phases, rows, waiting, progress)?;
+        all = turn(book, phases, rows, waiting, done, all)?;
         done += 1;
         left -= 1;
     }

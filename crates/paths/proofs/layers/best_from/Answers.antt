@@ -1,7 +1,8 @@
 use Rattle.std.proofs.Common.{◌≡◌, ◌+◌, length, sym, ap, ◌∙◌, subst, zero-mul, arith}
 use Rattle.book.specs.Lines.{lines}
+use Rattle.rowtable.specs.Tables.{state_of}
 use Rattle.paths.specs.Cells.{width, index, cell_at}
-use Rattle.paths.specs.Layers.{BestSaid}
+use Rattle.paths.specs.Layers.{BestWay}
 use Rattle.paths.proofs.Products.{within}
 use Rattle.paths.proofs.Laying.{told_cell}
 use Rattle.paths.proofs.layers.best_from.Goals as goal
@@ -23,8 +24,9 @@ returns g c =
     let place : c.state_index.result ≡ 0 + index Fs start = let f = c.state_index.ensures.is in omega arith in
     let is : c.grade_at.result ≡ (cell_at cells (0 + index Fs start)).grade = c.grade_at.ensures ∙ ap (λ k. (cell_at cells k).grade) place in
     record {
-      layered = c.fill_layers.ensures;
+      linked = c.fill_layers.ensures.linked;
+      layered = c.fill_layers.ensures.layered;
       is = is;
-      told = subst (BestSaid m (lines c.args.book.now) c.args.rows.now c.args.count start c.args.lane.now) (sym is)
-          (told_cell m (lines c.args.book.now) Fs c.args.rows.now c.args.count c.requires.sound c.args.lane.now cells start c.requires.exists c.fill_layers.ensures);
+      told = λ opens. subst (BestWay m (lines c.args.book.now) Fs c.args.rows.now c.args.count (state_of Fs start) c.args.lane.now) (sym is)
+          (told_cell (lines c.args.book.now) c.requires.sound c.args.lane.now cells start c.requires.exists (c.fill_layers.ensures.layered opens));
     }
