@@ -1,5 +1,5 @@
 -- What the queue's contracts cite. The queue is the first n places of a list, and that f a b is
--- true says that a is no worse than b. Shuffled xs ys says that ys has the same elements as xs, each
+-- true says that a is no worse than b. IsPermutation xs ys says that ys has the same elements as xs, each
 -- as often, in whatever order.
 use Rattle.std.specs.Prelude.{◌≡◌, ℕ, ◌+◌, ◌-◌, ◌<◌, ◌≤◌, Bool, T, List, ◌∷◌, length, take, drop, slice_index_or}
 use Rattle.std.specs.List.Sorted.{IsPermutation}
