@@ -49,6 +49,9 @@ module _ (b : Book) (n : ℕ) (lt : n < 64) where
 -- ---- the least of some numbers
 
 module _ (ls : List Line) where
+  pub lowered_same : (P : ℕ → Type 0) (a : ℕ) → ((m : ℕ) → P m → (Accepted ls m → ⊥) → a ≤ m) → Lowered ls P a a
+  lowered_same P a all = record { low = omega arith; one = inl refl; all = all }
+
   pub lowered_like : (P Q : ℕ → Type 0) (a r : ℕ) → ((m : ℕ) → P m → Q m) → ((m : ℕ) → Q m → (Accepted ls m → ⊥) → P m) → Lowered ls P a r → Lowered ls Q a r
   lowered_like P Q a r to from h = record {
     low = h.low;
