@@ -1,11 +1,9 @@
--- States by number, and by what they stand for.
-use Rattle.std.proofs.Common.{◌≡◌, ℕ, ◌<◌, true, false, List, get_or, ap, arith}
-use Rattle.text.specs.declared.line.Line.{Line}
+-- States by number.
+use Rattle.std.proofs.Common.{◌≡◌, ℕ, ◌<◌, true, false, List, ap, arith}
 use Rattle.rowtable.specs.declared.row.TableState.{TableState}
 use Rattle.rowtable.specs.declared.row.TableState.TheVariants.{Node, Head}
-use Rattle.rowtable.specs.Tables.{state_of, Exists}
+use Rattle.rowtable.specs.Tables.{Exists}
 use Rattle.paths.specs.Cells.{width, index}
-use Rattle.paths.specs.Layers.{Opens}
 
 pub index_below : (Fs : List ℕ) (s : TableState) → Exists Fs s → index Fs s < width Fs
 index_below Fs (Node t) exists = omega arith
@@ -21,17 +19,6 @@ same_index Fs (Head p i) (Head q j) here there same =
     let lower = there.0 in
     let e : p ≡ q = omega arith in
     let f : i ≡ j = omega arith in
-    cc
-
--- .. and, where the phases are different, stand for states of their own
-pub same_state : (ls : List Line) (Fs : List ℕ) → Opens ls Fs → (s t : TableState) → Exists Fs s → Exists Fs t → state_of Fs s ≡ state_of Fs t → s ≡ t
-same_state ls Fs opens (Node a) (Node b) here there same = let e : a ≡ b = cc in ap Node e
-same_state ls Fs opens (Node a) (Head p i) here there same = let never : ◌≡◌ {A = ℕ} 0 1 = cc in absurd (omega arith)
-same_state ls Fs opens (Head p i) (Node b) here there same = let never : ◌≡◌ {A = ℕ} 0 1 = cc in absurd (omega arith)
-same_state ls Fs opens (Head p i) (Head q j) here there same =
-    let e : p ≡ q = cc in
-    let phase : get_or Fs i 0 ≡ get_or Fs j 0 = cc in
-    let f : i ≡ j = opens.apart i j here.1 there.1 phase in
     cc
 
 -- the answer no, where yes would follow

@@ -3,6 +3,8 @@ pub mod Offers
 pub mod Onward
 pub mod Stopping
 pub mod Products
+pub mod Bridge
 pub mod Asking
 pub mod Laying
 pub mod Standing
+pub mod Opened

@@ -1,5 +1,5 @@
 -- How one row after another makes a layer.
-use Rattle.std.proofs.Common.{◌≡◌, ℕ, ◌+◌, ◌<◌, ◌≤◌, Bool, true, false, cond, T, eqb, ◌⊎◌, List, [], ◌∷◌, length, get_or, set, Some, None, Option, sym, refl, ap, ◌∙◌, subst, inl, inr, ⊎_elim, arith, eq-eqb, eqb-true}
+use Rattle.std.proofs.Common.{◌≡◌, ℕ, ◌+◌, ◌<◌, ◌≤◌, Bool, true, false, cond, T, eqb, ◌⊎◌, List, length, get_or, set, Some, None, Option, sym, refl, ap, ◌∙◌, subst, inl, inr, ⊎_elim, arith, eq-eqb, eqb-true}
 use Rattle.std.proofs.lemmas.List.{get_or-set_same, get_or-set_other, get_or_read, set-get_or}
 use Rattle.std.proofs.lemmas.Bool.{cases_lt, cases_eq}
 use Rattle.grade.specs.declared.grade.Grade.{Ghosts}
@@ -8,9 +8,9 @@ use Rattle.deduction.proofs.Grades.{either, no_worse_itself}
 use Rattle.rows.proofs.Graded.{laws_of}
 use Rattle.rowtable.specs.declared.row.TableState.{TableState}
 use Rattle.rowtable.specs.declared.row.TableRow.{TableRow}
-use Rattle.rowtable.specs.Tables.{Exists}
+use Rattle.rowtable.specs.Tables.{Exists, row_at}
 use Rattle.paths.specs.declared.cell.Cell.{Cell}
-use Rattle.paths.specs.Cells.{width, index, no_cell, cell_at, row_at, Says, Layer, Via, keeps, bettered, brought_by, brought, SameFrom, Linked}
+use Rattle.paths.specs.Cells.{width, index, no_cell, cell_at, Says, Layer, Via, keeps, bettered, brought_by, brought, SameFrom}
 use Rattle.paths.proofs.Indexes.{index_below, same_index}
 
 module _ {G : Type 0} (m : Ghosts G) where
@@ -42,16 +42,6 @@ module _ {G : Type 0} (m : Ghosts G) where
       (λ k v h. record { below = h.below; from = h.from; by = h.by; rest = h.rest; has = sym (ap (λ d. d.grade) (at k)) ∙ h.has; joins = h.joins })
       (λ k v h. record { below = h.below; from = h.from; by = h.by; rest = h.rest; has = ap (λ d. d.grade) (at k) ∙ h.has; joins = h.joins })
       (layer s exists)
-
-  -- layers behind a place that both have
-  pub linked_same : (Fs : List ℕ) (rows : List (TableRow G)) (n : ℕ) (old new : List (Cell G)) (w : List ℕ) (base : ℕ) → SameFrom base old new → Linked m Fs rows n old w base → Linked m Fs rows n new w base
-  linked_same Fs rows n old new [] base same linked = tt
-  linked_same Fs rows n old new (x ∷ w) base same (layer, more) =
-      let behind : SameFrom (base + width Fs) old new = λ k le. same k (omega arith) in (
-        layer_same Fs rows n x new old new base (base + width Fs) (λ k le. sym (behind k le))
-            (λ s exists. subst (Says m (Via m Fs rows n x old (base + width Fs) s)) (sym (same (base + index Fs s) (omega arith))) (layer s exists)),
-        linked_same Fs rows n old new w (base + width Fs) behind more,
-      )
 
   -- where nothing is known and no row was brought in
   pub layer_none : (Fs : List ℕ) (rows : List (TableRow G)) (x : ℕ) (old cells : List (Cell G)) (base behind : ℕ)

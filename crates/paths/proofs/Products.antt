@@ -7,9 +7,8 @@ use Rattle.grade.specs.Lawful.{Lawful}
 use Rattle.text.specs.declared.line.Line.{Line}
 use Rattle.rowtable.specs.declared.row.TableRow.{TableRow}
 use Rattle.paths.specs.declared.cell.Cell.{Cell}
-use Rattle.paths.specs.Cells.{width, index, cell_at, Says, Layer, Via, SameFrom, Sound, Linked}
-use Rattle.paths.specs.Layers.{Opens, Stopping, Onward, Layered}
-use Rattle.paths.proofs.Offers.{layer_same, linked_same}
+use Rattle.paths.specs.Cells.{width, index, cell_at, Says, Layer, Via, SameFrom, Sound}
+use Rattle.paths.specs.Layers.{Stopping, Onward, Layered}
 use Rattle.paths.proofs.Onward.{filled_onward}
 
 pub next_layer : (k w : ℕ) → (k + 1) * w ≡ k * w + w
@@ -29,44 +28,33 @@ small k w few low = mul-le-mul few low
 
 module _ {G : Type 0} (m : Ghosts G) (ls : List Line) (Fs : List ℕ) (rows : List (TableRow G)) (n : ℕ) (lane : List ℕ) where
   -- the last layer is that of no wagons
-  pub layered_last : (cells : List (Cell G)) (base : ℕ) → base ≡ length lane * width Fs → Layer m Fs cells base (Stopping m ls Fs) → Layered m ls Fs rows n lane cells (length lane)
+  pub layered_last : (cells : List (Cell G)) (base : ℕ) → base ≡ length lane * width Fs → Layer m Fs cells base (Stopping m ls) → Layered m ls rows n Fs lane cells (length lane)
   layered_last cells base is layer q low high s exists =
       let e : length lane ≡ q = omega arith in
-      subst (λ w. Says m (Onward m ls Fs rows n w s) (cell_at cells (q * width Fs + index Fs s))) (sym (drop_all q lane low))
-      (subst (λ b. Says m (Stopping m ls Fs s) (cell_at cells (b + index Fs s))) (is ∙ ap (λ k. k * width Fs) e) (layer s exists))
+      subst (λ w. Says m (Onward m ls rows n w s) (cell_at cells (q * width Fs + index Fs s))) (sym (drop_all q lane low))
+      (subst (λ b. Says m (Stopping m ls s) (cell_at cells (b + index Fs s))) (is ∙ ap (λ k. k * width Fs) e) (layer s exists))
 
   -- one layer more
-  pub linked_more : (old new : List (Cell G)) (k base : ℕ) → 0 < k → k ≤ length lane → base ≡ (k - 1) * width Fs → Layer m Fs new base (Via m Fs rows n (get_or lane (k - 1) 0) old (base + width Fs))
-      → SameFrom (base + width Fs) old new → Linked m Fs rows n old (drop k lane) (k * width Fs) → Linked m Fs rows n new (drop (k - 1) lane) ((k - 1) * width Fs)
-  linked_more old new k base some few is filled same linked =
-      let f : k - 1 + 1 ≡ k = omega arith in
-      let edge : base + width Fs ≡ k * width Fs = ap (λ b. b + width Fs) is ∙ layer_before k (width Fs) some in
-      subst (λ w. Linked m Fs rows n new w ((k - 1) * width Fs)) (sym (drop_more lane (k - 1) 0 (omega arith) ∙ ap (λ j. get_or lane (k - 1) 0 ∷ drop j lane) f))
-      (subst (Linked m Fs rows n new (get_or lane (k - 1) 0 ∷ drop k lane)) is (
-        layer_same m Fs rows n (get_or lane (k - 1) 0) new old new base (base + width Fs) (λ j le. sym (same j le)) filled,
-        linked_same m Fs rows n old new (drop k lane) (base + width Fs) same (subst (Linked m Fs rows n old (drop k lane)) (sym edge) linked),
-      ))
-
-  pub layered_more : Lawful m → Opens ls Fs → Sound m Fs rows n → (old new : List (Cell G)) (k base : ℕ) → 0 < k → k ≤ length lane → base ≡ (k - 1) * width Fs
+  pub layered_more : Lawful m → Sound m Fs rows n → (old new : List (Cell G)) (k base : ℕ) → 0 < k → k ≤ length lane → base ≡ (k - 1) * width Fs
       → Layer m Fs new base (Via m Fs rows n (get_or lane (k - 1) 0) old (base + width Fs)) → SameFrom (base + width Fs) old new
-      → Layered m ls Fs rows n lane old k → Layered m ls Fs rows n lane new (k - 1)
-  layered_more lawful opens sound old new k base some few is filled same layered q low high =
+      → Layered m ls rows n Fs lane old k → Layered m ls rows n Fs lane new (k - 1)
+  layered_more lawful sound old new k base some few is filled same layered q low high =
       ⊎_elim
       (λ less.
       let e : k - 1 ≡ q = omega arith in
       let f : k - 1 + 1 ≡ k = omega arith in
-      subst (λ j. Layer m Fs new (j * width Fs) (Onward m ls Fs rows n (drop j lane))) e
-      (subst (λ w. Layer m Fs new ((k - 1) * width Fs) (Onward m ls Fs rows n w)) (sym (drop_more lane (k - 1) 0 (omega arith) ∙ ap (λ j. get_or lane (k - 1) 0 ∷ drop j lane) f))
-      (subst (λ b. Layer m Fs new b (Onward m ls Fs rows n (get_or lane (k - 1) 0 ∷ drop k lane))) is
-      (filled_onward ls sound lawful opens (get_or lane (k - 1) 0) (drop k lane) old new base (base + width Fs) behind filled))))
+      subst (λ j. Layer m Fs new (j * width Fs) (Onward m ls rows n (drop j lane))) e
+      (subst (λ w. Layer m Fs new ((k - 1) * width Fs) (Onward m ls rows n w)) (sym (drop_more lane (k - 1) 0 (omega arith) ∙ ap (λ j. get_or lane (k - 1) 0 ∷ drop j lane) f))
+      (subst (λ b. Layer m Fs new b (Onward m ls rows n (get_or lane (k - 1) 0 ∷ drop k lane))) is
+      (filled_onward m ls rows n lawful sound (get_or lane (k - 1) 0) (drop k lane) old new base (base + width Fs) behind filled))))
       (λ more s exists.
       let le : k * width Fs ≤ q * width Fs = mul-le-mul_right (width Fs) more in
       let e = edge in
-      subst (Says m (Onward m ls Fs rows n (drop q lane) s)) (sym (same (q * width Fs + index Fs s) (omega arith))) (layered q more high s exists))
+      subst (Says m (Onward m ls rows n (drop q lane) s)) (sym (same (q * width Fs + index Fs s) (omega arith))) (layered q more high s exists))
       (cases_lt q k)
     where
       edge : base + width Fs ≡ k * width Fs
       edge = ap (λ b. b + width Fs) is ∙ layer_before k (width Fs) some
 
-      behind : Layer m Fs old (base + width Fs) (Onward m ls Fs rows n (drop k lane))
-      behind = subst (λ b. Layer m Fs old b (Onward m ls Fs rows n (drop k lane))) (sym edge) (layered k (omega arith) few)
+      behind : Layer m Fs old (base + width Fs) (Onward m ls rows n (drop k lane))
+      behind = subst (λ b. Layer m Fs old b (Onward m ls rows n (drop k lane))) (sym edge) (layered k (omega arith) few)

@@ -14,8 +14,7 @@ use Rattle.rows.proofs.Graded.{append_grade}
 use Rattle.rowtable.specs.declared.row.Reason.{Reason}
 use Rattle.rowtable.specs.declared.row.Reason.TheVariants as reason
 use Rattle.rowtable.specs.declared.row.TableRow.{TableRow}
-use Rattle.rowtable.specs.Tables.{row_of}
-use Rattle.paths.specs.Cells.{row_at}
+use Rattle.rowtable.specs.Tables.{row_of, row_at}
 use Rattle.paths.specs.Layers.{PathOf, path_end, path_on}
 use Rattle.paths.specs.Runs.{parts, Earlier, LineRow, StandsFor, arrived, on_order, on_notice, Chain, chain_none, chain_on, RightLine, right_link, right_watch, RightOrder, RightNotice, Right, Reasoned, StandsReach}
 

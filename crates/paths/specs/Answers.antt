@@ -7,11 +7,9 @@ use Rattle.model.specs.Watch.{Reaches}
 use Rattle.model.specs.Grades.{moves_grade, RunGrade, Best}
 use Rattle.rows.specs.Rows.{head}
 use Rattle.phases.specs.declared.table.Phases.{Phases}
-use Rattle.phases.specs.Table.{Holds, OpenedBy}
+use Rattle.phases.specs.Table.{used, Holds, OpenedBy}
 use Rattle.phases.specs.Held.{Fits}
-use Rattle.rowtable.specs.declared.row.TableState.{TableState}
 use Rattle.rowtable.specs.declared.row.TableRow.{TableRow}
-use Rattle.rowtable.specs.Tables.{state_of, Exists}
 use Rattle.paths.specs.declared.refusal.PathRefusal.{PathRefusal}
 use Rattle.paths.specs.declared.refusal.PathRefusal.TheVariants.{TooLarge, NotOpened, ScratchShort, ListShort, NoWay, BrokenRow}
 use Rattle.paths.specs.Cells.{Sound}
@@ -27,10 +25,6 @@ path_number ListShort = 12
 path_number NoWay = 13
 path_number BrokenRow = 14
 
--- the phases that are in use
-abbrev pub used : Phases → List ℕ
-used p = take p.count p.table
-
 -- the places of scratch that a lane needs: a layer for each wagon and one more
 abbrev pub needed : Phases → List ℕ → ℕ
 needed p lane = (length lane + 1) * (16 * p.count + 64)
@@ -40,12 +34,6 @@ pub record Asked (p : Phases) (x : Position) (places : ℕ) : Type 0 where
   pub fits : Fits x.mode x.lane
   pub opened : Holds p x.phase
   pub room : needed p x.lane ≤ places
-
--- .. and the state that its path starts from
-pub record Ready (p : Phases) (x : Position) (places : ℕ) (s : TableState) : Type 0 where
-  pub asked : Asked p x places
-  pub exists : Exists (used p) s
-  pub is : state_of (used p) s ≡ head x.mode x.phase
 
 -- the first of 9, 10 and 11 that applies
 abbrev pub Unasked : Phases → Position → ℕ → PathRefusal → Type 0

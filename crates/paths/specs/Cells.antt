@@ -1,10 +1,10 @@
 -- Cells: the best that is known of a state with the wagons that are left, kept in layers over a lent table.
-use Rattle.std.specs.Prelude.{◌≡◌, ℕ, ◌+◌, ◌*◌, ◌<◌, ◌≤◌, Bool, false, cond, T, List, [], ◌∷◌, reverse, length, take, Some, None, Option, MatchOption, ◌==◌, slice_index_or, slice_set}
+use Rattle.std.specs.Prelude.{◌≡◌, ℕ, ◌+◌, ◌*◌, ◌<◌, ◌≤◌, Bool, false, cond, T, List, length, Some, None, Option, MatchOption, ◌==◌, slice_index_or, slice_set}
 use Rattle.grade.specs.declared.grade.Grade.{Ghosts}
 use Rattle.rowtable.specs.declared.row.TableState.{TableState}
 use Rattle.rowtable.specs.declared.row.TableState.TheVariants.{Node, Head}
 use Rattle.rowtable.specs.declared.row.TableRow.{TableRow}
-use Rattle.rowtable.specs.Tables.{Exists, blank_row}
+use Rattle.rowtable.specs.Tables.{Exists, row_at}
 use Rattle.paths.specs.declared.cell.Cell.{Cell}
 
 -- the places of a layer: one for each state, 16 for each phase and 64 for the nodes
@@ -24,9 +24,6 @@ abbrev pub cell_at : {G : Type 0} → List (Cell G) → ℕ → Cell G
 cell_at cells k = slice_index_or cells k no_cell
 
 module _ {G : Type 0} (m : Ghosts G) where
-  abbrev pub row_at : List (TableRow G) → ℕ → TableRow G
-  row_at rows k = slice_index_or rows k (blank_row m.best)
-
   -- `P k v`: place k offers the grade v. Here k offers v, and no place offers a better one.
   pub record Chosen (P : ℕ → G → Type 0) (k : ℕ) (v : G) : Type 0 where
     pub offered : P k v
@@ -43,11 +40,11 @@ module _ {G : Type 0} (m : Ghosts G) where
   -- what row k offers at the state s with the wagon x on top: its grade joined with what the cell of its other end, in the layer at `behind`, has
   pub record Via (Fs : List ℕ) (rows : List (TableRow G)) (n x : ℕ) (cells : List (Cell G)) (behind : ℕ) (s : TableState) (k : ℕ) (v : G) : Type 0 where
     pub below : k < n
-    pub from : (row_at rows k).from ≡ s
-    pub by : (row_at rows k).wagon ≡ x
+    pub from : (row_at m rows k).from ≡ s
+    pub by : (row_at m rows k).wagon ≡ x
     pub rest : G
-    pub has : (cell_at cells (behind + index Fs (row_at rows k).to)).grade ≡ Some rest
-    pub joins : m.join (row_at rows k).grade rest ≡ v
+    pub has : (cell_at cells (behind + index Fs (row_at m rows k).to)).grade ≡ Some rest
+    pub joins : m.join (row_at m rows k).grade rest ≡ v
 
   -- whether a grade, if any, is no worse than v, and so is kept when v is offered
   abbrev pub keeps : Option G → G → Bool
@@ -66,24 +63,6 @@ module _ {G : Type 0} (m : Ghosts G) where
   abbrev pub brought : List ℕ → List (Cell G) → ℕ → ℕ → ℕ → TableRow G → List (Cell G)
   brought Fs cells base x k r =
       cond (r.wagon == x) (brought_by (cell_at cells (base + width Fs + index Fs r.to)).grade cells (base + index Fs r.from) k r.grade) cells
-
-module _ {G : Type 0} (m : Ghosts G) (Fs : List ℕ) (rows : List (TableRow G)) (n : ℕ) (cells : List (Cell G)) where
-  -- the layers of these wagons, from this place on: each comes from the one behind it
-  abbrev pub Linked : List ℕ → ℕ → Type 0
-  Linked [] base = Unit {0}
-  Linked (x ∷ w) base = Layer m Fs cells base (Via m Fs rows n x cells (base + width Fs)) × Linked w (base + width Fs)
-
-  -- The rows at these places lead from a state by the wagons, through cells from layer to layer, and give its cell the grade v.
-  pub data Trail : ℕ → TableState → List ℕ → List ℕ → G → Type 0 where
-    trail_end : {base : ℕ} {s : TableState} {v : G} → (cell_at cells (base + index Fs s)).grade ≡ Some v → Trail base s [] [] v
-    trail_on : {base : ℕ} {s : TableState} {x : ℕ} {w : List ℕ} {k : ℕ} {ks : List ℕ} {rest v : G} → k < n → (row_at m rows k).from ≡ s → (row_at m rows k).wagon ≡ x
-        → Trail (base + width Fs) (row_at m rows k).to w ks rest → m.join (row_at m rows k).grade rest ≡ v → Trail base s (x ∷ w) (k ∷ ks) v
-
-  -- the first places of a list, as a stack, are such a trail, of the grade that the cell has
-  pub record Laid (base : ℕ) (s : TableState) (w : List ℕ) (list : List ℕ) : Type 0 where
-    pub grade : G
-    pub has : (cell_at cells (base + index Fs s)).grade ≡ Some grade
-    pub trail : Trail base s w (reverse (take (length w) list)) grade
 
 -- from this place on both have the same
 abbrev pub SameFrom : {G : Type 0} → ℕ → List (Cell G) → List (Cell G) → Type 0

@@ -1,4 +1,5 @@
 pub mod Cells
 pub mod Layers
-pub mod Answers
 pub mod Runs
+pub mod Answers
+pub mod Outcomes

@@ -18,8 +18,7 @@ use Rattle.rows.specs.Rows.{State, head, wagon, row, link_row, watch_row, order_
 use Rattle.rowtable.specs.declared.row.Reason.{Reason}
 use Rattle.rowtable.specs.declared.row.Reason.TheVariants as reason
 use Rattle.rowtable.specs.declared.row.TableRow.{TableRow}
-use Rattle.rowtable.specs.Tables.{row_of}
-use Rattle.paths.specs.Cells.{row_at}
+use Rattle.rowtable.specs.Tables.{row_of, row_at}
 use Rattle.paths.specs.Layers.{PathOf}
 
 -- the places of the rows that an order's row rests on: one for each wagon that it sets down

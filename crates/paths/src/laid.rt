@@ -1,14 +1,18 @@
 // Laying out the best path.
-ghost use Rattle.std.specs.Prelude.{◌≡◌, ℕ, ◌+◌, ◌*◌, ◌<◌, ◌≤◌, reverse, length, take, IfErr, MatchOption};
+ghost use Rattle.std.specs.Prelude.{◌≡◌, ℕ, ◌+◌, ◌*◌, ◌<◌, ◌≤◌, reverse, length, take, IfErr, MatchOption, OnErr};
 ghost use Rattle.book.specs.Lines.{lines};
 ghost use Rattle.model.specs.Moves.{at};
-ghost use Rattle.phases.specs.Table.{OpenedBy};
+ghost use Rattle.grade.specs.Lawful.{Lawful};
+ghost use Rattle.phases.specs.Table.{used, OpenedBy};
 ghost use Rattle.rows.specs.Ways.{Saturated};
-ghost use Rattle.rowtable.specs.Tables.{Exists, Held, state_of};
+ghost use Rattle.rowtable.specs.Tables.{Exists, Held};
+ghost use Rattle.rowtable.specs.Paths.{RowPath};
+ghost use Rattle.rowtable.specs.Saturated.{SaturatedTable};
 ghost use Rattle.paths.specs.Cells.{width, Sound};
+ghost use Rattle.paths.specs.Layers.{BestSaid};
 ghost use Rattle.paths.specs.Runs.{Reasoned};
-ghost use Rattle.paths.specs.Layers.{Opens, BestWay, PathOf};
-ghost use Rattle.paths.specs.Answers.{used, LaidTold, RunsTold, RunLaid, path_number};
+ghost use Rattle.paths.specs.Answers.{LaidTold, RunsTold, RunLaid, path_number};
+ghost use Rattle.paths.specs.Outcomes.{RowsLaidTold, SaturatedTold, RestLaid};
 
 use crate::cell::Cell;
 use crate::lay::lay;
@@ -39,22 +43,23 @@ fn lay_best<G: Grade>(
     requires short { length lane.now ≤ 32 }
     requires room { (length lane.now + 1) * width phases.now ≤ length cells.old }
     requires places { length lane.now ≤ length list.old }
-    ensures told { Opens (lines book.now) phases.now
-        → BestWay G.Grade.own (lines book.now) phases.now rows.now count (state_of phases.now start) lane.now result }
-    ensures laid { MatchOption result (list.new ≡ list.old) (λ v. Opens (lines book.now) phases.now
-        → PathOf G.Grade.own (lines book.now) phases.now rows.now count (state_of phases.now start) lane.now (reverse (take (length lane.now) list.new)) v) }
+    requires lawful { Lawful G.Grade.own }
+    ensures told { BestSaid G.Grade.own (lines book.now) rows.now count start lane.now result }
+    ensures laid { MatchOption result (list.new ≡ list.old)
+        (RowPath G.Grade.own (lines book.now) rows.now count start lane.now (reverse (take (length lane.now) list.new))) }
 {
     let grade = best_from(book, phases, rows, count, start, lane, cells);
     match grade {
         Some(found) => {
-            lay(phases, rows, count, start, lane, cells, list);
+            lay(book, phases, rows, count, start, lane, cells, list);
             Some(found)
         }
         None => None,
     }
 }
 
-// Lays out a path of the best grade: the places of its rows, one for each wagon, as a stack with the first row on top.
+// Lays out a path of the best grade: the places of its rows, one for each wagon, as a stack with the first row on top. Over the
+// saturated rows of the book it stands for one run into the watch, which unfolding shows move by move.
 // What scratch and the rest of the list then hold is free.
 pub fn lay_out<G: Grade>(
     book: &Book,
@@ -74,6 +79,12 @@ pub fn lay_out<G: Grade>(
         → RunLaid G.Grade.own (lines book.now) phases.now rows.now count (at mode phase lane.now) (length scratch.old) list.new result }
     ensures cells { IfErr result (λ e. path_number e < 13 → scratch.new ≡ scratch.old) }
     ensures rest { IfErr result (λ e. path_number e < 15 → list.new ≡ list.old) }
+    ensures rows { RowsLaidTold G.Grade.own (lines book.now) phases.now rows.now count (at mode phase lane.now) (length scratch.old) list.new result }
+    ensures saturated { OpenedBy (lines book.now) phases.now → SaturatedTable G.Grade.own (lines book.now) (used phases.now) rows.now count
+        → SaturatedTold G.Grade.own (lines book.now) (at mode phase lane.now) result }
+    ensures unfolds { OpenedBy (lines book.now) phases.now → SaturatedTable G.Grade.own (lines book.now) (used phases.now) rows.now count
+        → RestLaid G.Grade.own (lines book.now) rows.now count (at mode phase lane.now) list.new result }
+    ensures kept { OnErr result (list.new ≡ list.old) }
 {
     lawful::<G>();
     let start = start_state(phases, mode, phase, lane, scratch.len())?;

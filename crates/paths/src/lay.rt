@@ -1,10 +1,15 @@
 // A path read off the layers, row by row.
-ghost use Rattle.std.specs.Prelude.{◌≡◌, ℕ, ◌+◌, ◌*◌, ◌<◌, ◌≤◌, true, length, is_some};
-ghost use Rattle.rowtable.specs.Tables.{Exists};
-ghost use Rattle.paths.specs.Cells.{width, index, cell_at, row_at, Sound, Linked, Laid};
+ghost use Rattle.std.specs.Prelude.{◌≡◌, ℕ, ◌+◌, ◌*◌, ◌<◌, ◌≤◌, true, reverse, length, take, is_some, Some};
+ghost use Rattle.grade.specs.Lawful.{Lawful};
+ghost use Rattle.book.specs.Lines.{lines};
+ghost use Rattle.rowtable.specs.Tables.{Exists, row_at};
+ghost use Rattle.rowtable.specs.Paths.{RowPath};
+ghost use Rattle.paths.specs.Cells.{width, index, cell_at, Sound};
+ghost use Rattle.paths.specs.Layers.{Layered};
 
 use crate::cell::Cell;
 use crate::states::{layer_width, state_index};
+use book::tables::Book;
 use grade::grade::Grade;
 use rowtable::row::{TableRow, TableState};
 
@@ -22,8 +27,9 @@ fn other_end<G: Grade>(rows: &[TableRow<G>], place: usize) -> TableState
     rows[place].to
 }
 
-// Puts the rows of the path from a state by the lane on the list, the first on top.
-pub fn lay<G: Grade>(
+// Puts the rows of the path from a state by the lane on the list, the first on top. The book is there for the contract.
+pub(crate) fn lay<G: Grade>(
+    book: &Book,
     phases: &[u64],
     rows: &[TableRow<G>],
     count: usize,
@@ -38,9 +44,11 @@ pub fn lay<G: Grade>(
     requires short { length lane.now ≤ 32 }
     requires room { (length lane.now + 1) * width phases.now ≤ length cells.now }
     requires places { length lane.now ≤ length list.old }
-    requires linked { Linked G.Grade.own phases.now rows.now count cells.now lane.now 0 }
+    requires lawful { Lawful G.Grade.own }
+    requires layered { Layered G.Grade.own (lines book.now) rows.now count phases.now lane.now cells.now 0 }
     requires some { is_some (cell_at cells.now (0 + index phases.now start)).grade ≡ true }
-    ensures { Laid G.Grade.own phases.now rows.now count cells.now 0 start lane.now list.new }
+    ensures { (v : G) → (cell_at cells.now (0 + index phases.now start)).grade ≡ Some v
+        → RowPath G.Grade.own (lines book.now) rows.now count start lane.now (reverse (take (length lane.now) list.new)) v }
 {
     let width = layer_width(phases);
     let mut state = start;

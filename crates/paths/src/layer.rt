@@ -100,7 +100,7 @@ fn bring_rows<G: Grade>(
 }
 
 // The layer at `base`, from the one behind it.
-pub fn fill_layer<G: Grade>(
+pub(crate) fn fill_layer<G: Grade>(
     phases: &[u64],
     rows: &[TableRow<G>],
     count: usize,

@@ -1,9 +1,9 @@
 // All layers, from the back of the lane to its front.
 ghost use Rattle.std.specs.Prelude.{◌≡◌, ℕ, ◌+◌, ◌*◌, ◌<◌, ◌≤◌, length};
 ghost use Rattle.book.specs.Lines.{lines};
-ghost use Rattle.rowtable.specs.Tables.{Exists, state_of};
-ghost use Rattle.paths.specs.Cells.{width, index, cell_at, Sound, Linked};
-ghost use Rattle.paths.specs.Layers.{Opens, Layered, BestWay};
+ghost use Rattle.rowtable.specs.Tables.{Exists};
+ghost use Rattle.paths.specs.Cells.{width, index, cell_at, Sound};
+ghost use Rattle.paths.specs.Layers.{Layered, BestSaid};
 
 use crate::cell::Cell;
 use crate::layer::fill_layer;
@@ -14,7 +14,7 @@ use grade::grade::Grade;
 use grade::theorems::lawful;
 use rowtable::row::{TableRow, TableState};
 
-pub fn fill_layers<G: Grade>(
+pub(crate) fn fill_layers<G: Grade>(
     book: &Book,
     phases: &[u64],
     rows: &[TableRow<G>],
@@ -26,9 +26,7 @@ pub fn fill_layers<G: Grade>(
     requires sound { Sound G.Grade.own phases.now rows.now count }
     requires short { length lane.now ≤ 32 }
     requires room { (length lane.now + 1) * width phases.now ≤ length cells.old }
-    ensures linked { Linked G.Grade.own phases.now rows.now count cells.new lane.now 0 }
-    ensures layered { Opens (lines book.now) phases.now
-        → Layered G.Grade.own (lines book.now) phases.now rows.now count lane.now cells.new 0 }
+    ensures { Layered G.Grade.own (lines book.now) rows.now count phases.now lane.now cells.new 0 }
 {
     lawful::<G>();
     let width = layer_width(phases);
@@ -40,7 +38,7 @@ pub fn fill_layers<G: Grade>(
     }
 }
 
-pub fn grade_at<G: Grade>(cells: &[Cell<G>], place: usize) -> Option<G>
+pub(crate) fn grade_at<G: Grade>(cells: &[Cell<G>], place: usize) -> Option<G>
     requires { place < length cells.now }
     ensures { result ≡ (cell_at cells.now place).grade }
 {
@@ -48,7 +46,7 @@ pub fn grade_at<G: Grade>(cells: &[Cell<G>], place: usize) -> Option<G>
 }
 
 // The best grade that the rows say of a state and a lane, if they say of any.
-pub fn best_from<G: Grade>(
+pub(crate) fn best_from<G: Grade>(
     book: &Book,
     phases: &[u64],
     rows: &[TableRow<G>],
@@ -62,12 +60,9 @@ pub fn best_from<G: Grade>(
     requires exists { Exists phases.now start }
     requires short { length lane.now ≤ 32 }
     requires room { (length lane.now + 1) * width phases.now ≤ length cells.old }
-    ensures linked { Linked G.Grade.own phases.now rows.now count cells.new lane.now 0 }
-    ensures layered { Opens (lines book.now) phases.now
-        → Layered G.Grade.own (lines book.now) phases.now rows.now count lane.now cells.new 0 }
+    ensures layered { Layered G.Grade.own (lines book.now) rows.now count phases.now lane.now cells.new 0 }
     ensures is { result ≡ (cell_at cells.new (0 + index phases.now start)).grade }
-    ensures told { Opens (lines book.now) phases.now
-        → BestWay G.Grade.own (lines book.now) phases.now rows.now count (state_of phases.now start) lane.now result }
+    ensures told { BestSaid G.Grade.own (lines book.now) rows.now count start lane.now result }
 {
     fill_layers(book, phases, rows, count, lane, cells);
     grade_at(cells, state_index(phases, start))

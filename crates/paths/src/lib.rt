@@ -1,4 +1,4 @@
-// Paths over the rows of a table: the best grade that the rows tell of a lane.
+// Paths over the rows of a table: the best grade that the rows tell of a lane, and laying out a path of that grade.
 
 #![tactic(auto)]
 

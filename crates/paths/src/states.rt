@@ -6,14 +6,14 @@ ghost use Rattle.paths.specs.Cells.{width, index, Sound};
 use grade::grade::Grade;
 use rowtable::row::{TableRow, TableState};
 
-pub fn layer_width(phases: &[u64]) -> usize
+pub(crate) fn layer_width(phases: &[u64]) -> usize
     requires { length phases.now ≤ 32 }
     ensures { result ≡ width phases.now }
 {
     16 * phases.len() + 64
 }
 
-pub fn state_index(phases: &[u64], state: TableState) -> usize
+pub(crate) fn state_index(phases: &[u64], state: TableState) -> usize
     requires few { length phases.now ≤ 32 }
     requires exists { Exists phases.now state }
     ensures is { result ≡ index phases.now state }
@@ -41,7 +41,7 @@ fn row_exists<G: Grade>(phases: &[u64], row: TableRow<G>) -> bool
 }
 
 // Whether there are so many rows, and each leads from a state that exists to one.
-pub fn rows_sound<G: Grade>(phases: &[u64], rows: &[TableRow<G>], count: usize) -> bool
+pub(crate) fn rows_sound<G: Grade>(phases: &[u64], rows: &[TableRow<G>], count: usize) -> bool
     ensures { Decides result (Sound G.Grade.own phases.now rows.now count) }
 {
     if count > rows.len() {

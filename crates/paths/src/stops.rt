@@ -1,11 +1,11 @@
 // The layer with no wagon left: where a path may end.
 ghost use Rattle.std.specs.Prelude.{◌≡◌, ℕ, ◌+◌, ◌*◌, ◌<◌, ◌≤◌, length, Decides};
 ghost use Rattle.book.specs.Lines.{lines};
-ghost use Rattle.rows.specs.Paths.{Stop};
 ghost use Rattle.rowtable.specs.declared.row.TableState.{TableState as Place};
-ghost use Rattle.rowtable.specs.Tables.{Exists, state_of};
+ghost use Rattle.rowtable.specs.Tables.{Exists};
+ghost use Rattle.rowtable.specs.Paths.{Ending};
 ghost use Rattle.paths.specs.Cells.{width, index, Says, Layer};
-ghost use Rattle.paths.specs.Layers.{Opens, Stopping};
+ghost use Rattle.paths.specs.Layers.{Stopping};
 
 use crate::cell::Cell;
 use crate::states::layer_width;
@@ -17,7 +17,7 @@ use grade::theorems::lawful;
 fn stops(book: &Book, phases: &[u64], number: usize) -> bool
     requires few { length phases.now ≤ 32 }
     requires within { number < width phases.now }
-    ensures { Opens (lines book.now) phases.now → (s : Place) → Exists phases.now s → index phases.now s ≡ number → Decides result (Stop (lines book.now) (state_of phases.now s)) }
+    ensures { (s : Place) → Exists phases.now s → index phases.now s ≡ number → Decides result (Ending (lines book.now) s) }
 {
     let heads = 16 * phases.len();
     if number < heads {
@@ -31,7 +31,7 @@ fn stops(book: &Book, phases: &[u64], number: usize) -> bool
 fn end_cell<G: Grade>(book: &Book, phases: &[u64], number: usize) -> Cell<G>
     requires few { length phases.now ≤ 32 }
     requires within { number < width phases.now }
-    ensures { Opens (lines book.now) phases.now → (s : Place) → Exists phases.now s → index phases.now s ≡ number → Says G.Grade.own (Stopping G.Grade.own (lines book.now) phases.now s) result }
+    ensures { (s : Place) → Exists phases.now s → index phases.now s ≡ number → Says G.Grade.own (Stopping G.Grade.own (lines book.now) s) result }
 {
     lawful::<G>();
     if stops(book, phases, number) {
@@ -47,10 +47,10 @@ fn end_cell<G: Grade>(book: &Book, phases: &[u64], number: usize) -> Cell<G>
     }
 }
 
-pub fn last_layer<G: Grade>(book: &Book, phases: &[u64], cells: &mut [Cell<G>], base: usize)
+pub(crate) fn last_layer<G: Grade>(book: &Book, phases: &[u64], cells: &mut [Cell<G>], base: usize)
     requires few { length phases.now ≤ 32 }
     requires room { base + width phases.now ≤ length cells.old }
-    ensures { Opens (lines book.now) phases.now → Layer G.Grade.own phases.now cells.new base (Stopping G.Grade.own (lines book.now) phases.now) }
+    ensures { Layer G.Grade.own phases.now cells.new base (Stopping G.Grade.own (lines book.now)) }
 {
     let width = layer_width(phases);
     for i in 0..width {

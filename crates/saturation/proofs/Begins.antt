@@ -65,7 +65,7 @@ module _ {G : Type 0} {m : Ghosts G} (lawful : Lawful m) (Fs : List ℕ) (b : Bo
       named = refl;
       concludes = refl;
       parts = m.best;
-      rests = refl;
+      rests = (refl, (refl, refl));
       graded = refl;
     };
     fit = refl;

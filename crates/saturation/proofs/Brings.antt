@@ -16,14 +16,15 @@ use Rattle.model.specs.Moves.{laid_down}
 use Rattle.rows.specs.Rows.{State, head, Row, row, wagon, Path, stay, step, Rule, order_rule, notice_rule, premises, noticed_row}
 use Rattle.rowtable.specs.declared.row.TableRow.{TableRow}
 use Rattle.rowtable.specs.Tables.{state_of, row_of}
-use Rattle.saturation.specs.Reasons.{places, Rests, Reasoned}
-use Rattle.saturation.specs.Work.{SettledAt, Covers, Placed, Grown, Table, Given, Ends, Later, Last, Brings, BringsBoth, Starts, Goes, Noticed, row_by_order, row_by_notice, TriedOrder, TriedNotice, TriedRule}
+use Rattle.rowtable.specs.Reasons.{places, Rests, Reasoned, SettledAt}
+use Rattle.saturation.specs.Work.{Covers, Placed, Grown, Table, Given, Ends, Later, Last, Brings, BringsBoth, Starts, Goes, Noticed, row_by_order, row_by_notice, TriedOrder, TriedNotice, TriedRule}
 use Rattle.saturation.proofs.Growth.{ends_on, went_none, covers_later}
 
 -- reasons speak only of what is At its place
 module _ {G : Type 0} (m : Ghosts G) (Fs : List ℕ) {At At' : ℕ → TableRow G → Type 0} (on : (p : ℕ) (r : TableRow G) → At p r → At' p r) where
   pub rests_on : (is : List Row) (ps : List ℕ) (g : G) → Rests m Fs At is ps g → Rests m Fs At' is ps g
-  rests_on [] ps g best = best
+  rests_on [] [] g best = best
+  rests_on [] (p ∷ ps) g (zero, rest) = (zero, rests_on [] ps g rest)
   rests_on (i ∷ is) [] g never = never
   rests_on (i ∷ is) (p ∷ ps) g (x, h, at, is_i, rest, joins) = (x, h, on p x at, is_i, rests_on is ps h rest, joins)
 
@@ -69,7 +70,7 @@ module _ {G : Type 0} {m : Ghosts G} {Fs : List ℕ} where
                 named = refl;
                 concludes = refl;
                 parts = x.grade;
-                rests = (x, m.best, here, refl, refl, sym (t.lawful.unitr x.grade));
+                rests = (x, m.best, here, refl, (refl, refl), sym (t.lawful.unitr x.grade));
                 graded = refl;
               };
               fit = inl refl;

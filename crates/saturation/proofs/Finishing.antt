@@ -17,9 +17,10 @@ use Rattle.model.specs.Phases.{Opened}
 use Rattle.rows.specs.Rows.{Row, row_rules}
 use Rattle.rows.proofs.Graded.{laws_of}
 use Rattle.rowtable.specs.declared.row.TableRow.{TableRow}
-use Rattle.rowtable.specs.Tables.{Held, row_of, blank_row}
-use Rattle.saturation.specs.Work.{unranked, row_at, SettledAt, WaitsAt, Has, Table, Worked}
-use Rattle.saturation.specs.Finished.{Finished}
+use Rattle.rowtable.specs.Tables.{Held, row_of, blank_row, row_at}
+use Rattle.rowtable.specs.Reasons.{SettledAt}
+use Rattle.saturation.specs.Work.{unranked, WaitsAt, Has, Table, Worked}
+use Rattle.saturation.specs.Complete.{Complete}
 use Rattle.saturation.proofs.Turns.{key_once}
 
 -- an empty table
@@ -83,19 +84,23 @@ module _ {G : Type 0} {m : Ghosts G} {Fs : List ℕ} {ls : List Line} {rows : Li
       let (g, (p, r, at, is, grade)) = finished_all (laws_of t.lawful) w.invariant done i d in
       (p, at.within, ap (row_of Fs) at.here ∙ is)
 
-  pub finished : Finished m Fs ls (min (length rows) (length queue)) rows n
+  pub finished : Complete m Fs ls (min (length rows) (length queue)) rows n
   finished = record {
-    room = let a = t.room in let b = t.entries in omega arith;
-    saturated = record {
-      best = λ i v h. settled_final (laws_of t.lawful) w.invariant i v (has i v h);
-      all = λ i d. let f = finished_all (laws_of t.lawful) w.invariant done i d in (f.0, held i f.0 f.1);
+    table = record {
+      enough = t.room;
+      saturated = record {
+        best = λ i v h. settled_final (laws_of t.lawful) w.invariant i v (has i v h);
+        all = λ i d. let f = finished_all (laws_of t.lawful) w.invariant done i d in (f.0, held i f.0 f.1);
+      };
+      once = once;
+      exist = t.placed;
+      ranked = λ k h. let low = rank_low k h in omega arith;
+      ranks = λ k l hk hl e. t.ranks k l hk hl (rank_low k hk) e;
+      climbing = λ k l hk hl less. w.climbing k l (row_at m rows k) (row_at m rows l) (settled k hk) (settled l hl) less;
+      reasons = λ k h. w.settled_reasons k (row_at m rows k) (settled k h);
     };
-    once = once;
-    exist = t.placed;
-    ranked = λ k h. let low = rank_low k h in omega arith;
-    ranks = λ k l hk hl e. t.ranks k l hk hl (rank_low k hk) e;
-    reasons = λ k h. w.settled_reasons k (row_at m rows k) (settled k h);
     blank = t.blank;
+    room = let a = t.room in let b = t.entries in omega arith;
     fits = λ out.
         let filled : Filled (Derivation (row_rules ls)) (λ k. row_of Fs (row_at m rows k)) n = record {
           different = record { apart = once; each = λ k h. (w.invariant.settled_derived _ _ (k, row_at m rows k, settled k h, refl, refl)).0 };

@@ -12,9 +12,10 @@ use Rattle.text.specs.declared.line.Line.{Line}
 use Rattle.rows.specs.Rows.{Row}
 use Rattle.rows.proofs.Graded.{laws_of}
 use Rattle.rowtable.specs.declared.row.TableRow.{TableRow}
-use Rattle.rowtable.specs.Tables.{state_of, Exists, row_of, blank_row}
+use Rattle.rowtable.specs.Tables.{state_of, Exists, row_of, blank_row, row_at}
+use Rattle.rowtable.specs.Reasons.{SettledAt}
 use Rattle.rows.specs.Rows.{row, wagon}
-use Rattle.saturation.specs.Work.{unranked, key, row_at, SettledAt, Covers, Placed, Grown, Table, Went, Full, Ends}
+use Rattle.saturation.specs.Work.{unranked, key, Covers, Placed, Grown, Table, Went, Full, Ends}
 
 -- the queue's calls, where they cannot fail
 pub replaces : {X : Type 0} (f : X → X → Bool) {xs ys : List X} {n place : ℕ} {old e : X} (r : Option X) → n ≤ length xs → StandsAt xs n place old → T (f e old)

@@ -5,3 +5,4 @@ pub mod Turns
 pub mod Begins
 pub mod Starting
 pub mod Finishing
+pub mod Finished

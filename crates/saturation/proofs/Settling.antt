@@ -8,8 +8,8 @@ use Rattle.queue.specs.Queues.{Queue, Single, Holds, Taken}
 use Rattle.queue.proofs.Members.{taken_holds, taken_single}
 use Rattle.text.specs.declared.line.Line.{Line}
 use Rattle.rowtable.specs.declared.row.TableRow.{TableRow}
-use Rattle.rowtable.specs.Tables.{blank_row}
-use Rattle.saturation.specs.Work.{unranked, key, row_at, ranked_as, Table, Settles}
+use Rattle.rowtable.specs.Tables.{blank_row, row_at}
+use Rattle.saturation.specs.Work.{unranked, key, ranked_as, Table, Settles}
 use Rattle.saturation.proofs.Growth.{key_placed}
 
 and_left : (x y : Bool) → T (x && y) → T x

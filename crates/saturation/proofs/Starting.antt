@@ -20,9 +20,10 @@ use Rattle.rows.specs.Chains.{GivesAxioms}
 use Rattle.rows.proofs.Rules.{all_axioms}
 use Rattle.rows.proofs.Graded.{laws_of}
 use Rattle.rowtable.specs.declared.row.TableRow.{TableRow}
-use Rattle.rowtable.specs.Tables.{row_of}
-use Rattle.saturation.specs.Reasons.{places, Rests, Reasoned}
-use Rattle.saturation.specs.Work.{row_at, SettledAt, WaitsAt, Has, Covers, Grown, Table, Went, Full, Ends, Begins, Worked, Turned}
+use Rattle.rowtable.specs.Tables.{row_of, row_at}
+use Rattle.rowtable.proofs.Reasons.{rests_none}
+use Rattle.rowtable.specs.Reasons.{places, Rests, Reasoned, SettledAt}
+use Rattle.saturation.specs.Work.{WaitsAt, Has, Covers, Grown, Table, Went, Full, Ends, Begins, Worked, Turned}
 use Rattle.saturation.specs.Start.{LinkBegun, WatchBegun, RuleBegun}
 use Rattle.saturation.proofs.Brings.{reasoned_on}
 use Rattle.saturation.proofs.Turns.{key_once, reasoned_derived}
@@ -86,7 +87,7 @@ module _ {G : Type 0} (m : Ghosts G) (Fs : List ℕ) (b : Book) where
     axiom_of i g (p, r, at, is, grade) =
         let given = all_new went.grown p at.within in
         let why = given.reasoned in
-        let is_best : why.parts ≡ m.best = subst (λ is. Rests m Fs (λ p r. ⊥) is (places (row_at m new p).reason) why.parts) given.fit why.rests in
+        let is_best : why.parts ≡ m.best = rests_none m Fs (λ p r. ⊥) (places (row_at m new p).reason) why.parts (subst (λ is. Rests m Fs (λ p r. ⊥) is (places (row_at m new p).reason) why.parts) given.fit why.rests) in
         (why.rule, given.fit, why.concludes ∙ ap (row_of Fs) at.here ∙ is, sym (lawful.unitr (rule_grade m why.rule)) ∙ ap (m.join (rule_grade m why.rule)) (sym is_best) ∙ sym why.graded ∙ ap (λ y. y.grade) at.here ∙ grade)
 
     pub start_worked : Worked m Fs (lines b) new 0 l queue
@@ -94,6 +95,7 @@ module _ {G : Type 0} (m : Ghosts G) (Fs : List ℕ) (b : Book) where
       table = t;
       settled_reasons = λ p r h. let low = h.ranked in absurd (omega arith);
       waiting_reasons = λ p r h. subst (Reasoned m (lines b) Fs (SettledAt m new l 0)) h.here (reasoned_on (λ q y never. absurd never) (all_new went.grown p h.within).reasoned);
+      climbing = λ p q r y at_p at_q less. let low = at_p.ranked in absurd (omega arith);
       invariant = start_holds (laws_of lawful) (λ i g h. let low = h.2.ranked in omega arith) (record { axioms = axiom_of; all = all_axioms m gives });
     }
 

@@ -29,9 +29,9 @@ use Rattle.rows.proofs.Graded.{laws_of}
 use Rattle.rowtable.specs.declared.row.TableState.{TableState}
 use Rattle.rowtable.specs.declared.row.TableState.TheVariants.{Node, Head}
 use Rattle.rowtable.specs.declared.row.TableRow.{TableRow}
-use Rattle.rowtable.specs.Tables.{state_of, Exists, row_of}
-use Rattle.saturation.specs.Reasons.{places, Rests, Reasoned}
-use Rattle.saturation.specs.Work.{unranked, key, row_at, ranked_as, SettledAt, WaitsAt, Has, Covers, Placed, Grown, Table, Went, Full, Ends, Last, Brings, Starts, Goes, Noticed, TriedOrder, TriedRule, Worked, Settles, Turned}
+use Rattle.rowtable.specs.Tables.{state_of, Exists, row_of, row_at}
+use Rattle.rowtable.specs.Reasons.{places, Rests, Reasoned, SettledAt}
+use Rattle.saturation.specs.Work.{unranked, key, ranked_as, WaitsAt, Has, Covers, Placed, Grown, Table, Went, Full, Ends, Last, Brings, Starts, Goes, Noticed, TriedOrder, TriedRule, Worked, Settles, Turned}
 use Rattle.saturation.proofs.Growth.{key_row}
 use Rattle.saturation.proofs.Brings.{reasoned_on}
 
@@ -62,7 +62,8 @@ module _ (Fs : List ℕ) (apart : (k l : ℕ) → k < length Fs → l < length F
 -- ---- reasons as derivations
 module _ {G : Type 0} (m : Ghosts G) (Fs : List ℕ) {At : ℕ → TableRow G → Type 0} where
   pub rests_joined : (is : List Row) (ps : List ℕ) (g : G) → Rests m Fs At is ps g → Joined (grading m) (Has m Fs At) is g
-  rests_joined [] ps g is_best = subst (Joined (grading m) (Has m Fs At) []) (sym is_best) joined_none
+  rests_joined [] [] g is_best = subst (Joined (grading m) (Has m Fs At) []) (sym is_best) joined_none
+  rests_joined [] (p ∷ ps) g (zero, rest) = rests_joined [] ps g rest
   rests_joined (i ∷ is) [] g never = absurd never
   rests_joined (i ∷ is) (p ∷ ps) g (x, h, at, is_i, rest, joins) = subst (Joined (grading m) (Has m Fs At) (i ∷ is)) (sym joins) (joined_more (p, x, at, is_i, refl) (rests_joined is ps h rest))
 
@@ -345,11 +346,21 @@ module _ {G : Type 0} {m : Ghosts G} {Fs : List ℕ} (b : Book) {old mid : List 
             subst (Reasoned m (lines b) Fs (SettledAt m new l (s + 1))) e (reasoned_on old_new (w.waiting_reasons p (row_at m mid p) (mid_waits p lt (ap (λ y. y.rank) e ∙ h.waits))))
         from (inr given) = subst (Reasoned m (lines b) Fs (SettledAt m new l (s + 1))) h.here (reasoned_on grown.kept given.reasoned)
 
+    -- ---- ranks go by grades
+    climbing : (p q : ℕ) (r y : TableRow G) → SettledAt m new l (s + 1) p r → SettledAt m new l (s + 1) q y → r.rank < y.rank → T (m.noworse r.grade y.grade)
+    climbing p q r y at_p at_q less = from (mid_old p r (grown.back p r at_p)) (mid_old q y (grown.back q y at_q))
+      where
+        from : ((p ≡ a) × (r ≡ x)) ⊎ SettledAt m old n s p r → ((q ≡ a) × (y ≡ x)) ⊎ SettledAt m old n s q y → T (m.noworse r.grade y.grade)
+        from before (inl (here, is)) = subst (λ z. T (m.noworse r.grade z.grade)) (sym is) (last_now.climbing p r (grown.back p r at_p))
+        from (inl (here, is)) (inr later) = let low = later.ranked in let rank = ap (λ z. z.rank) is in let e = x_rank in absurd (omega arith)
+        from (inr before) (inr later) = w.climbing p q r y before later less
+
     pub turn_keeps : Worked m Fs (lines b) new (s + 1) l rest
     turn_keeps = record {
       table = t;
       settled_reasons = settled_reasons;
       waiting_reasons = waiting_reasons;
+      climbing = climbing;
       invariant = settling_keeps (laws_of lawful) w.invariant next settling;
     }
 

@@ -7,9 +7,9 @@ use Rattle.text.specs.declared.line.Line.{Line}
 use Rattle.rows.specs.Rows.{row_rules}
 use Rattle.rows.specs.Ways.{Saturated}
 use Rattle.rowtable.specs.declared.row.TableRow.{TableRow}
-use Rattle.rowtable.specs.Tables.{Held, Exists, row_of, blank_row}
+use Rattle.rowtable.specs.Tables.{Held, Exists, row_of, blank_row, row_at}
 use Rattle.saturation.specs.Reasons.{Reasoned}
-use Rattle.saturation.specs.Work.{row_at, SettledAt}
+use Rattle.rowtable.specs.Reasons.{SettledAt}
 
 -- The first n places hold exactly the saturated rows, each once, with its best grade, its rank and a right reason; the rest is blank.
 pub record Finished {G : Type 0} (m : Ghosts G) (Fs : List ℕ) (ls : List Line) (places : ℕ) (rows : List (TableRow G)) (n : ℕ) : Type 0 where

@@ -2,33 +2,11 @@
 use Rattle.std.specs.Prelude.{◌≡◌, ℕ, List, [], ◌∷◌}
 use Rattle.grade.specs.declared.grade.Grade.{Ghosts}
 use Rattle.text.specs.declared.line.Line.{Line}
-use Rattle.rows.specs.Rows.{Row, Rule, link_rule, watch_rule, order_rule, notice_rule, premises, conclusion}
+use Rattle.rows.specs.Rows.{Row, Rule, premises, conclusion}
 use Rattle.rows.specs.Ways.{rule_grade}
-use Rattle.rowtable.specs.declared.row.Reason.{Reason}
-use Rattle.rowtable.specs.declared.row.Reason.TheVariants as reason
 use Rattle.rowtable.specs.declared.row.TableRow.{TableRow}
 use Rattle.rowtable.specs.Tables.{row_of}
-
--- the places of the rows that a reason names
-abbrev pub places : Reason → List ℕ
-places reason.Line = []
-places (reason.Order n a b) = a ∷ (b ∷ [])
-places (reason.Notice n a) = a ∷ []
-
--- The reason names the rule: that of a link or watch line, or of the order or notice with its number.
-abbrev pub Names : {ls : List Line} → Rule ls → Reason → Type 0
-Names (link_rule l stands) reason.Line = Unit {0}
-Names (link_rule l stands) (reason.Order n a b) = ⊥
-Names (link_rule l stands) (reason.Notice n a) = ⊥
-Names (watch_rule v F stands is_open) reason.Line = Unit {0}
-Names (watch_rule v F stands is_open) (reason.Order n a b) = ⊥
-Names (watch_rule v F stands is_open) (reason.Notice n a) = ⊥
-Names (order_rule o F stands is_open in_force path) reason.Line = ⊥
-Names (order_rule o F stands is_open in_force path) (reason.Order n a b) = o.number.value ≡ n
-Names (order_rule o F stands is_open in_force path) (reason.Notice n a) = ⊥
-Names (notice_rule c F l s stands is_open allows) reason.Line = ⊥
-Names (notice_rule c F l s stands is_open allows) (reason.Order n a b) = ⊥
-Names (notice_rule c F l s stands is_open allows) (reason.Notice n a) = c.number.value ≡ n
+use Rattle.rowtable.specs.Reasons.{places, Names}
 
 -- The premises stand at these places in order, where `At p x` says that place p holds the row x, and their grades join to g.
 -- Places beyond the last premise count for nothing.

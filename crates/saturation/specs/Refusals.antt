@@ -9,8 +9,7 @@ use Rattle.rows.specs.Rows.{row_rules}
 use Rattle.phases.specs.Refusals.{phase_number, phase_place, PhasesRefused, PhasesAllowed}
 use Rattle.phases.specs.Table.{OpenedBy}
 use Rattle.rowtable.specs.declared.row.TableRow.{TableRow}
-use Rattle.rowtable.specs.Tables.{blank_row}
-use Rattle.saturation.specs.Work.{row_at}
+use Rattle.rowtable.specs.Tables.{blank_row, row_at}
 use Rattle.saturation.specs.Finished.{Finished}
 use Rattle.saturation.specs.declared.saturated.Saturation.{Saturation}
 use Rattle.saturation.specs.declared.refusal.SaturationRefusal.{SaturationRefusal}

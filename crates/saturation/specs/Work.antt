@@ -23,8 +23,8 @@ use Rattle.rowtable.specs.declared.row.TableState.{TableState}
 use Rattle.rowtable.specs.declared.row.TableState.TheVariants.{Head}
 use Rattle.rowtable.specs.declared.row.TableRow.{TableRow}
 use Rattle.rowtable.specs.declared.row.Reason.TheVariants as reason
-use Rattle.rowtable.specs.Tables.{state_of, Exists, row_of, blank_row}
-use Rattle.saturation.specs.Reasons.{Reasoned}
+use Rattle.rowtable.specs.Tables.{state_of, Exists, row_of, blank_row, row_at}
+use Rattle.rowtable.specs.Reasons.{Reasoned, SettledAt}
 
 -- the rank of a row that waits: no table has so many places
 abbrev pub unranked : ℕ
@@ -33,10 +33,6 @@ unranked = 18446744073709551615
 -- what tells rows apart
 abbrev pub key : {G : Type 0} → TableRow G → TableState × ℕ × TableState
 key r = (r.from, r.wagon, r.to)
-
--- the row at a place, and a blank one where there is no place
-abbrev pub row_at : {G : Type 0} → Ghosts G → List (TableRow G) → ℕ → TableRow G
-row_at m rows k = slice_index_or rows k (blank_row m.best)
 
 -- the row that an order gives in the phase at place i, over rows at a and b whose grades join to g
 abbrev pub row_by_order : {G : Type 0} → Ghosts G → OrderLine → ℕ → TableState → G → ℕ → ℕ → TableRow G
@@ -60,13 +56,7 @@ pub record Goes {G : Type 0} (k : ℕ) (x y : TableRow G) : Type 0 where
   pub by : y.wagon ≡ k
 
 module _ {G : Type 0} (m : Ghosts G) where
-  -- one of the first n places holds the row r, which has a rank below s
-  pub record SettledAt (rows : List (TableRow G)) (n s p : ℕ) (r : TableRow G) : Type 0 where
-    pub within : p < n
-    pub here : row_at m rows p ≡ r
-    pub ranked : r.rank < s
-
-  -- it holds the row r, which waits
+  -- one of the first n places holds the row r, which waits
   pub record WaitsAt (rows : List (TableRow G)) (n p : ℕ) (r : TableRow G) : Type 0 where
     pub within : p < n
     pub here : row_at m rows p ≡ r
@@ -88,8 +78,8 @@ module _ {G : Type 0} (m : Ghosts G) where
     -- From the first n rows of old to the first l of new: settled rows stay, the others keep their keys and may get better, and what is new is New.
     pub record Grown (s : ℕ) (New : TableRow G → Type 0) (old : List (TableRow G)) (n : ℕ) (new : List (TableRow G)) (l : ℕ) : Type 0 where
       pub more : n ≤ l
-      pub kept : (p : ℕ) (r : TableRow G) → SettledAt old n s p r → SettledAt new l s p r
-      pub back : (p : ℕ) (r : TableRow G) → SettledAt new l s p r → SettledAt old n s p r
+      pub kept : (p : ℕ) (r : TableRow G) → SettledAt m old n s p r → SettledAt m new l s p r
+      pub back : (p : ℕ) (r : TableRow G) → SettledAt m new l s p r → SettledAt m old n s p r
       pub keys : (k : ℕ) → k < n → key (row_at m new k) ≡ key (row_at m old k)
       pub better : (k : ℕ) → k < n → T (m.noworse (row_at m new k).grade (row_at m old k).grade)
       pub rightly : (k : ℕ) → k < l → ((k < n) × (row_at m new k ≡ row_at m old k)) ⊎ New (row_at m new k)
@@ -144,20 +134,20 @@ module _ {G : Type 0} (m : Ghosts G) where
 
       -- what is settled is no worse than the grade g
       abbrev pub Later : List (TableRow G) → (s n : ℕ) → G → Type 0
-      Later rows s n g = (p : ℕ) (r : TableRow G) → SettledAt rows n s p r → T (m.noworse r.grade g)
+      Later rows s n g = (p : ℕ) (r : TableRow G) → SettledAt m rows n s p r → T (m.noworse r.grade g)
 
       -- x, at place a, was settled last: what is settled is no worse
       pub record Last (rows : List (TableRow G)) (s n a : ℕ) (x : TableRow G) : Type 0 where
-        pub here : SettledAt rows n s a x
+        pub here : SettledAt m rows n s a x
         pub climbing : Later rows s n x.grade
 
       -- what x brings: rows by a rule that has x among its premises, all settled
       abbrev pub Brings : List (TableRow G) → (s n : ℕ) → TableRow G → TableRow G → Type 0
-      Brings rows s n x = Given (SettledAt rows n s) (λ r. In (row_of Fs x) (premises r))
+      Brings rows s n x = Given (SettledAt m rows n s) (λ r. In (row_of Fs x) (premises r))
 
       -- what x and y bring together
       abbrev pub BringsBoth : List (TableRow G) → (s n : ℕ) → (x y : TableRow G) → TableRow G → Type 0
-      BringsBoth rows s n x y = Given (SettledAt rows n s) (λ r. In (row_of Fs x) (premises r) × In (row_of Fs y) (premises r))
+      BringsBoth rows s n x y = Given (SettledAt m rows n s) (λ r. In (row_of Fs x) (premises r) × In (row_of Fs y) (premises r))
 
       -- what lines and orders that lay nothing down give
       abbrev pub Begins : TableRow G → Type 0
@@ -194,7 +184,7 @@ module _ {G : Type 0} (m : Ghosts G) where
 
     -- .. if y was settled at place b, ..
     abbrev pub TriedPairAt : OrderLine → (k l : ℕ) → TableRow G → List (TableRow G) → (n s b : ℕ) → List (TableRow G) → ℕ → Type 0
-    TriedPairAt o k l x old n s b rows later = (y : TableRow G) → SettledAt old n s b y → TriedPair o k l x y rows later
+    TriedPairAt o k l x old n s b rows later = (y : TableRow G) → SettledAt m old n s b y → TriedPair o k l x y rows later
 
     -- .. on x and whatever was settled, by the wagons that the order lays down, ..
     abbrev pub TriedOrder : OrderLine → Wagons → (ℕ → TableRow G → Type 0) → TableRow G → List (TableRow G) → ℕ → Type 0
@@ -211,12 +201,13 @@ module _ {G : Type 0} (m : Ghosts G) where
       pub orders : (o : OrderLine) → slice_index_or b.rules k rule.Free ≡ rule.Order o → TriedOrder o o.wagons At x rows n
       pub notices : (c : NoticeLine) → slice_index_or b.rules k rule.Free ≡ rule.Notice c → (i : ℕ) → i < length Fs → TriedNotice c x i rows n
 
-    -- Between two settlings: every row has a right reason among rows settled before it, and best-first saturation's invariant holds.
+    -- Between two settlings: every row has a right reason among rows settled before it, rows were settled best grade first, and best-first saturation's invariant holds.
     pub record Worked (ls : List Line) (rows : List (TableRow G)) (s n : ℕ) (queue : List (Waiting G)) : Type 0 where
       pub table : Table ls rows s n queue
-      pub settled_reasons : (p : ℕ) (r : TableRow G) → SettledAt rows n s p r → Reasoned m ls Fs (SettledAt rows n r.rank) r
-      pub waiting_reasons : (p : ℕ) (r : TableRow G) → WaitsAt rows n p r → Reasoned m ls Fs (SettledAt rows n s) r
-      pub invariant : Invariant (row_system m ls) (Has (SettledAt rows n s)) (Has (WaitsAt rows n))
+      pub settled_reasons : (p : ℕ) (r : TableRow G) → SettledAt m rows n s p r → Reasoned m ls Fs (SettledAt m rows n r.rank) r
+      pub waiting_reasons : (p : ℕ) (r : TableRow G) → WaitsAt rows n p r → Reasoned m ls Fs (SettledAt m rows n s) r
+      pub climbing : (p q : ℕ) (r y : TableRow G) → SettledAt m rows n s p r → SettledAt m rows n s q y → r.rank < y.rank → T (m.noworse r.grade y.grade)
+      pub invariant : Invariant (row_system m ls) (Has (SettledAt m rows n s)) (Has (WaitsAt rows n))
 
     -- The best row that waits, at place a, was settled with the next rank; nothing else changed.
     pub record Settles (ls : List Line) (old : List (TableRow G)) (s n : ℕ) (waited : List (Waiting G)) (a : ℕ) (new : List (TableRow G)) (queue : List (Waiting G)) : Type 0 where

@@ -1,6 +1,8 @@
 // The saturated rows of a book.
 ghost use Rattle.std.specs.Prelude.{◌≡◌, MatchResult};
 ghost use Rattle.book.specs.Lines.{lines};
+ghost use Rattle.phases.specs.Table.{used};
+ghost use Rattle.rowtable.specs.Saturated.{SaturatedTable};
 ghost use Rattle.saturation.specs.Refusals.{saturation_number, saturation_place, places_of, RowsRefused, RowsSaturated};
 
 use crate::refusal::SaturationRefusal;
@@ -19,9 +21,12 @@ pub fn saturate_book<G: Grade>(
     rows: &mut [TableRow<G>],
     waiting: &mut [Waiting<G>],
 ) -> Result<Saturation, SaturationRefusal>
-    ensures { MatchResult result
+    ensures told { MatchResult result
         (RowsSaturated G.Grade.own (lines book.now) (places_of rows.old waiting.old) rows.new)
         (λ e. RowsRefused G.Grade.own (lines book.now) rows.old waiting.old rows.new waiting.new (saturation_number e) (saturation_place e)) }
+    ensures table { MatchResult result
+        (λ done. SaturatedTable G.Grade.own (lines book.now) (used done.phases) rows.new done.rows)
+        (λ _. Unit {0}) }
 {
     match open_phases(book) {
         Err(refusal) => Err(SaturationRefusal::Phases(refusal)),

@@ -5,9 +5,13 @@ ghost use Rattle.text.specs.declared.line.Line.TheVariants as line;
 ghost use Rattle.model.specs.Phases.{Stands};
 ghost use Rattle.model.specs.Moves.{laid_down};
 ghost use Rattle.book.specs.Lines.{lines};
-ghost use Rattle.saturation.specs.Work.{SettledAt, Table, Last, Ends, Brings, BringsBoth, TriedOne, TriedTwo, TriedPairAt, TriedOrder, TriedNotice, TriedRule};
+ghost use Rattle.rowtable.specs.Reasons.{SettledAt};
+ghost use Rattle.saturation.specs.Work.{Table, Last, Ends, Brings, BringsBoth, TriedOne, TriedTwo, TriedPairAt, TriedOrder, TriedNotice, TriedRule};
 
 use crate::offer::offer;
+use crate::pair_order::PairOrder;
+use crate::premise::Premise;
+use crate::progress::Progress;
 use crate::rules::{goes, notice_row, noticed, order_row, starts};
 use book::rule::Rule;
 use book::tables::Book;
@@ -22,24 +26,22 @@ fn attempt_one<G: Grade>(
     phases: &[u64],
     rows: &mut [TableRow<G>],
     waiting: &mut [Waiting<G>],
-    settled: usize,
-    found: usize,
+    progress: Progress,
     order: &OrderLine,
     wagon: u16,
-    a: usize,
-    x: TableRow<G>,
+    last: &Premise<G>,
 ) -> Option<usize>
-    requires table { Table G.Grade.own phases.now (lines book.now) rows.old settled found waiting.old }
-    requires last { Last G.Grade.own phases.now (lines book.now) rows.old settled found a x }
+    requires table { Table G.Grade.own phases.now (lines book.now) rows.old progress.settled progress.found waiting.old }
+    requires last { Last G.Grade.own phases.now (lines book.now) rows.old progress.settled progress.found last.now.place last.now.row }
     requires stands { Stands (lines book.now) (line.Order order.now) × (laid_down order.now ≡ wagon ∷ []) }
-    ensures { Ends G.Grade.own phases.now (lines book.now) settled (Brings G.Grade.own phases.now (lines book.now) rows.old settled found x) rows.old found waiting.old rows.new waiting.new
-        (TriedOne G.Grade.own phases.now order.now wagon x) result }
+    ensures { Ends G.Grade.own phases.now (lines book.now) progress.settled (Brings G.Grade.own phases.now (lines book.now) rows.old progress.settled progress.found last.now.row) rows.old progress.found waiting.old rows.new waiting.new
+        (TriedOne G.Grade.own phases.now order.now wagon last.now.row) result }
 {
-    match starts(phases, order, wagon, &x) {
-        None => Some(found),
+    match starts(phases, order, wagon, &last.row) {
+        None => Some(progress.found),
         Some(place) => {
-            let row = order_row(order, place, x.to, x.grade, a, 0);
-            offer(book, phases, rows, waiting, settled, found, row)
+            let row = order_row(order, place, last.row.to, last.row.grade, last.place, 0);
+            offer(book, phases, rows, waiting, progress, row)
         }
     }
 }
@@ -50,94 +52,102 @@ fn attempt_two<G: Grade>(
     phases: &[u64],
     rows: &mut [TableRow<G>],
     waiting: &mut [Waiting<G>],
-    settled: usize,
-    found: usize,
-    order: &OrderLine,
-    first: u16,
-    second: u16,
-    a: usize,
-    x: TableRow<G>,
-    b: usize,
-    y: TableRow<G>,
+    progress: Progress,
+    order: &PairOrder,
+    one: &Premise<G>,
+    next: &Premise<G>,
 ) -> Option<usize>
-    requires table { Table G.Grade.own phases.now (lines book.now) rows.old settled found waiting.old }
-    requires settled { SettledAt G.Grade.own rows.old found settled a x × SettledAt G.Grade.own rows.old found settled b y }
-    requires last { Last G.Grade.own phases.now (lines book.now) rows.old settled found a x ⊎ Last G.Grade.own phases.now (lines book.now) rows.old settled found b y }
-    requires stands { Stands (lines book.now) (line.Order order.now) × (laid_down order.now ≡ first ∷ (second ∷ [])) }
-    ensures { Ends G.Grade.own phases.now (lines book.now) settled (BringsBoth G.Grade.own phases.now (lines book.now) rows.old settled found x y) rows.old found waiting.old rows.new waiting.new
-        (TriedTwo G.Grade.own phases.now order.now first second x y) result }
+    requires table { Table G.Grade.own phases.now (lines book.now) rows.old progress.settled progress.found waiting.old }
+    requires settled { SettledAt G.Grade.own rows.old progress.found progress.settled one.now.place one.now.row × SettledAt G.Grade.own rows.old progress.found progress.settled next.now.place next.now.row }
+    requires last { Last G.Grade.own phases.now (lines book.now) rows.old progress.settled progress.found one.now.place one.now.row ⊎ Last G.Grade.own phases.now (lines book.now) rows.old progress.settled progress.found next.now.place next.now.row }
+    requires stands { Stands (lines book.now) (line.Order order.now.line) × (laid_down order.now.line ≡ order.now.first ∷ (order.now.second ∷ [])) }
+    ensures { Ends G.Grade.own phases.now (lines book.now) progress.settled (BringsBoth G.Grade.own phases.now (lines book.now) rows.old progress.settled progress.found one.now.row next.now.row) rows.old progress.found waiting.old rows.new waiting.new
+        (TriedTwo G.Grade.own phases.now order.now.line order.now.first order.now.second one.now.row next.now.row) result }
 {
-    if !goes(second, &x, &y) {
-        return Some(found);
+    if !goes(order.second, &one.row, &next.row) {
+        return Some(progress.found);
     }
-    match starts(phases, order, first, &x) {
-        None => Some(found),
+    match starts(phases, &order.line, order.first, &one.row) {
+        None => Some(progress.found),
         Some(place) => {
-            let row = order_row(order, place, y.to, x.grade.joined(y.grade), a, b);
-            offer(book, phases, rows, waiting, settled, found, row)
+            let parts = one.row.grade.joined(next.row.grade);
+            let row = order_row(
+                &order.line,
+                place,
+                next.row.to,
+                parts,
+                one.place,
+                next.place,
+            );
+            offer(book, phases, rows, waiting, progress, row)
         }
     }
 }
 
-// Tries the order on the row settled last with the row at place `b`, if that is settled, behind and before it.
+// Tries the order on the row settled last with the row at this place, if that is settled, behind and before it.
 fn bring_pair<G: Grade>(
     book: &Book,
     phases: &[u64],
     rows: &mut [TableRow<G>],
     waiting: &mut [Waiting<G>],
-    settled: usize,
-    found: usize,
-    order: &OrderLine,
-    first: u16,
-    second: u16,
-    a: usize,
-    x: TableRow<G>,
-    b: usize,
+    progress: Progress,
+    order: &PairOrder,
+    last: &Premise<G>,
+    place: usize,
 ) -> Option<usize>
-    requires table { Table G.Grade.own phases.now (lines book.now) rows.old settled found waiting.old }
-    requires last { Last G.Grade.own phases.now (lines book.now) rows.old settled found a x }
-    requires stands { Stands (lines book.now) (line.Order order.now) × (laid_down order.now ≡ first ∷ (second ∷ [])) }
-    requires within { b < found }
-    ensures { Ends G.Grade.own phases.now (lines book.now) settled (Brings G.Grade.own phases.now (lines book.now) rows.old settled found x) rows.old found waiting.old rows.new waiting.new
-        (TriedPairAt G.Grade.own phases.now order.now first second x rows.old found settled b) result }
+    requires table { Table G.Grade.own phases.now (lines book.now) rows.old progress.settled progress.found waiting.old }
+    requires last { Last G.Grade.own phases.now (lines book.now) rows.old progress.settled progress.found last.now.place last.now.row }
+    requires stands { Stands (lines book.now) (line.Order order.now.line) × (laid_down order.now.line ≡ order.now.first ∷ (order.now.second ∷ [])) }
+    requires within { place < progress.found }
+    ensures { Ends G.Grade.own phases.now (lines book.now) progress.settled (Brings G.Grade.own phases.now (lines book.now) rows.old progress.settled progress.found last.now.row) rows.old progress.found waiting.old rows.new waiting.new
+        (TriedPairAt G.Grade.own phases.now order.now.line order.now.first order.now.second last.now.row rows.old progress.found progress.settled place) result }
 {
-    let y = rows[b];
-    if y.rank >= settled {
-        return Some(found);
+    let other = Premise {
+        place,
+        row: rows[place],
+    };
+    if other.row.rank >= progress.settled {
+        return Some(progress.found);
     }
-    let n = attempt_two(
-        book, phases, rows, waiting, settled, found, order, first, second, a, x, b, y,
-    )?;
-    attempt_two(
-        book, phases, rows, waiting, settled, n, order, first, second, b, y, a, x,
-    )
+    // most pairs end here, before anything is handed on
+    if !goes(order.second, &last.row, &other.row) && !goes(order.second, &other.row, &last.row) {
+        return Some(progress.found);
+    }
+    let n = attempt_two(book, phases, rows, waiting, progress, order, last, &other)?;
+    let current = Progress {
+        found: n,
+        ..progress
+    };
+    attempt_two(book, phases, rows, waiting, current, order, &other, last)
 }
 
-// Tries the order on the row settled last with each settled row.
+// Tries the order on the row settled last with each settled row, unless that goes by neither of the order's wagons.
 fn bring_pairs<G: Grade>(
     book: &Book,
     phases: &[u64],
     rows: &mut [TableRow<G>],
     waiting: &mut [Waiting<G>],
-    settled: usize,
-    found: usize,
-    order: &OrderLine,
-    first: u16,
-    second: u16,
-    a: usize,
-    x: TableRow<G>,
+    progress: Progress,
+    order: &PairOrder,
+    last: &Premise<G>,
 ) -> Option<usize>
-    requires table { Table G.Grade.own phases.now (lines book.now) rows.old settled found waiting.old }
-    requires last { Last G.Grade.own phases.now (lines book.now) rows.old settled found a x }
-    requires stands { Stands (lines book.now) (line.Order order.now) × (laid_down order.now ≡ first ∷ (second ∷ [])) }
-    ensures { Ends G.Grade.own phases.now (lines book.now) settled (Brings G.Grade.own phases.now (lines book.now) rows.old settled found x) rows.old found waiting.old rows.new waiting.new
-        (λ later n. ((b : ℕ) → b < found → TriedPairAt G.Grade.own phases.now order.now first second x rows.old found settled b later n)) result }
+    requires table { Table G.Grade.own phases.now (lines book.now) rows.old progress.settled progress.found waiting.old }
+    requires last { Last G.Grade.own phases.now (lines book.now) rows.old progress.settled progress.found last.now.place last.now.row }
+    requires stands { Stands (lines book.now) (line.Order order.now.line) × (laid_down order.now.line ≡ order.now.first ∷ (order.now.second ∷ [])) }
+    ensures { Ends G.Grade.own phases.now (lines book.now) progress.settled (Brings G.Grade.own phases.now (lines book.now) rows.old progress.settled progress.found last.now.row) rows.old progress.found waiting.old rows.new waiting.new
+        (λ later n. ((b : ℕ) → b < progress.found → TriedPairAt G.Grade.own phases.now order.now.line order.now.first order.now.second last.now.row rows.old progress.found progress.settled b later n)) result }
 {
-    let mut n = found;
-    for b in 0..found {
-        n = bring_pair(
-            book, phases, rows, waiting, settled, n, order, first, second, a, x, b,
-        )?;
+    let wagon = u16::from(last.row.wagon);
+    if wagon != order.first && wagon != order.second {
+        return Some(progress.found);
+    }
+    let mut n = progress.found;
+    for place in 0..progress.found {
+        let current = Progress {
+            found: n,
+            ..progress
+        };
+        n = bring_pair(book, phases, rows, waiting, current, order, last, place)?;
     }
     Some(n)
 }
@@ -148,45 +158,36 @@ fn bring_order<G: Grade>(
     phases: &[u64],
     rows: &mut [TableRow<G>],
     waiting: &mut [Waiting<G>],
-    settled: usize,
-    found: usize,
+    progress: Progress,
     order: &OrderLine,
-    a: usize,
-    x: TableRow<G>,
+    last: &Premise<G>,
 ) -> Option<usize>
-    requires table { Table G.Grade.own phases.now (lines book.now) rows.old settled found waiting.old }
-    requires last { Last G.Grade.own phases.now (lines book.now) rows.old settled found a x }
+    requires table { Table G.Grade.own phases.now (lines book.now) rows.old progress.settled progress.found waiting.old }
+    requires last { Last G.Grade.own phases.now (lines book.now) rows.old progress.settled progress.found last.now.place last.now.row }
     requires stands { Stands (lines book.now) (line.Order order.now) }
-    ensures { Ends G.Grade.own phases.now (lines book.now) settled (Brings G.Grade.own phases.now (lines book.now) rows.old settled found x) rows.old found waiting.old rows.new waiting.new
-        (TriedOrder G.Grade.own phases.now order.now order.now.wagons (SettledAt G.Grade.own rows.old found settled) x) result }
+    ensures { Ends G.Grade.own phases.now (lines book.now) progress.settled (Brings G.Grade.own phases.now (lines book.now) rows.old progress.settled progress.found last.now.row) rows.old progress.found waiting.old rows.new waiting.new
+        (TriedOrder G.Grade.own phases.now order.now order.now.wagons (SettledAt G.Grade.own rows.old progress.found progress.settled) last.now.row) result }
 {
     match order.wagons {
-        Wagons::Zero => Some(found),
+        Wagons::Zero => Some(progress.found),
         Wagons::One(wagon) => attempt_one(
             book,
             phases,
             rows,
             waiting,
-            settled,
-            found,
+            progress,
             order,
             wagon.get(),
-            a,
-            x,
+            last,
         ),
-        Wagons::Two(first, second) => bring_pairs(
-            book,
-            phases,
-            rows,
-            waiting,
-            settled,
-            found,
-            order,
-            first.get(),
-            second.get(),
-            a,
-            x,
-        ),
+        Wagons::Two(first, second) => {
+            let pair = PairOrder {
+                line: *order,
+                first: first.get(),
+                second: second.get(),
+            };
+            bring_pairs(book, phases, rows, waiting, progress, &pair, last)
+        }
     }
 }
 
@@ -196,25 +197,23 @@ fn attempt_notice<G: Grade>(
     phases: &[u64],
     rows: &mut [TableRow<G>],
     waiting: &mut [Waiting<G>],
-    settled: usize,
-    found: usize,
+    progress: Progress,
     notice: &NoticeLine,
     place: usize,
-    a: usize,
-    x: TableRow<G>,
+    last: &Premise<G>,
 ) -> Option<usize>
-    requires table { Table G.Grade.own phases.now (lines book.now) rows.old settled found waiting.old }
-    requires last { Last G.Grade.own phases.now (lines book.now) rows.old settled found a x }
+    requires table { Table G.Grade.own phases.now (lines book.now) rows.old progress.settled progress.found waiting.old }
+    requires last { Last G.Grade.own phases.now (lines book.now) rows.old progress.settled progress.found last.now.place last.now.row }
     requires stands { Stands (lines book.now) (line.Notice notice.now) }
     requires place { (place < length phases.now) × (length phases.now ≤ 256) }
-    ensures { Ends G.Grade.own phases.now (lines book.now) settled (Brings G.Grade.own phases.now (lines book.now) rows.old settled found x) rows.old found waiting.old rows.new waiting.new
-        (TriedNotice G.Grade.own phases.now notice.now x place) result }
+    ensures { Ends G.Grade.own phases.now (lines book.now) progress.settled (Brings G.Grade.own phases.now (lines book.now) rows.old progress.settled progress.found last.now.row) rows.old progress.found waiting.old rows.new waiting.new
+        (TriedNotice G.Grade.own phases.now notice.now last.now.row place) result }
 {
-    if !noticed(phases, notice, place, &x) {
-        return Some(found);
+    if !noticed(phases, notice, place, &last.row) {
+        return Some(progress.found);
     }
-    let row = notice_row(notice, place, &x, a);
-    offer(book, phases, rows, waiting, settled, found, row)
+    let row = notice_row(notice, place, &last.row, last.place);
+    offer(book, phases, rows, waiting, progress, row)
 }
 
 // Tries the notice on the row settled last, in every opened phase.
@@ -223,22 +222,24 @@ fn bring_notice<G: Grade>(
     phases: &[u64],
     rows: &mut [TableRow<G>],
     waiting: &mut [Waiting<G>],
-    settled: usize,
-    found: usize,
+    progress: Progress,
     notice: &NoticeLine,
-    a: usize,
-    x: TableRow<G>,
+    last: &Premise<G>,
 ) -> Option<usize>
-    requires table { Table G.Grade.own phases.now (lines book.now) rows.old settled found waiting.old }
-    requires last { Last G.Grade.own phases.now (lines book.now) rows.old settled found a x }
+    requires table { Table G.Grade.own phases.now (lines book.now) rows.old progress.settled progress.found waiting.old }
+    requires last { Last G.Grade.own phases.now (lines book.now) rows.old progress.settled progress.found last.now.place last.now.row }
     requires stands { Stands (lines book.now) (line.Notice notice.now) }
     requires few { length phases.now ≤ 256 }
-    ensures { Ends G.Grade.own phases.now (lines book.now) settled (Brings G.Grade.own phases.now (lines book.now) rows.old settled found x) rows.old found waiting.old rows.new waiting.new
-        (λ later n. ((i : ℕ) → i < length phases.now → TriedNotice G.Grade.own phases.now notice.now x i later n)) result }
+    ensures { Ends G.Grade.own phases.now (lines book.now) progress.settled (Brings G.Grade.own phases.now (lines book.now) rows.old progress.settled progress.found last.now.row) rows.old progress.found waiting.old rows.new waiting.new
+        (λ later n. ((i : ℕ) → i < length phases.now → TriedNotice G.Grade.own phases.now notice.now last.now.row i later n)) result }
 {
-    let mut n = found;
+    let mut n = progress.found;
     for place in 0..phases.len() {
-        n = attempt_notice(book, phases, rows, waiting, settled, n, notice, place, a, x)?;
+        let current = Progress {
+            found: n,
+            ..progress
+        };
+        n = attempt_notice(book, phases, rows, waiting, current, notice, place, last)?;
     }
     Some(n)
 }
@@ -249,51 +250,47 @@ fn bring_rule<G: Grade>(
     phases: &[u64],
     rows: &mut [TableRow<G>],
     waiting: &mut [Waiting<G>],
-    settled: usize,
-    found: usize,
+    progress: Progress,
     number: usize,
-    a: usize,
-    x: TableRow<G>,
+    last: &Premise<G>,
 ) -> Option<usize>
-    requires table { Table G.Grade.own phases.now (lines book.now) rows.old settled found waiting.old }
-    requires last { Last G.Grade.own phases.now (lines book.now) rows.old settled found a x }
+    requires table { Table G.Grade.own phases.now (lines book.now) rows.old progress.settled progress.found waiting.old }
+    requires last { Last G.Grade.own phases.now (lines book.now) rows.old progress.settled progress.found last.now.place last.now.row }
     requires number { number < 64 }
     requires few { length phases.now ≤ 256 }
-    ensures { Ends G.Grade.own phases.now (lines book.now) settled (Brings G.Grade.own phases.now (lines book.now) rows.old settled found x) rows.old found waiting.old rows.new waiting.new
-        (TriedRule G.Grade.own phases.now book.now number (SettledAt G.Grade.own rows.old found settled) x) result }
+    ensures { Ends G.Grade.own phases.now (lines book.now) progress.settled (Brings G.Grade.own phases.now (lines book.now) rows.old progress.settled progress.found last.now.row) rows.old progress.found waiting.old rows.new waiting.new
+        (TriedRule G.Grade.own phases.now book.now number (SettledAt G.Grade.own rows.old progress.found progress.settled) last.now.row) result }
 {
     let rule = book.rules[number];
     match rule {
-        Rule::Free => Some(found),
-        Rule::Order(order) => bring_order(
-            book, phases, rows, waiting, settled, found, &order, a, x,
-        ),
-        Rule::Notice(notice) => bring_notice(
-            book, phases, rows, waiting, settled, found, &notice, a, x,
-        ),
+        Rule::Free => Some(progress.found),
+        Rule::Order(order) => bring_order(book, phases, rows, waiting, progress, &order, last),
+        Rule::Notice(notice) => bring_notice(book, phases, rows, waiting, progress, &notice, last),
     }
 }
 
 // Tries all rules on the row settled last.
-pub fn bring<G: Grade>(
+pub(crate) fn bring<G: Grade>(
     book: &Book,
     phases: &[u64],
     rows: &mut [TableRow<G>],
     waiting: &mut [Waiting<G>],
-    settled: usize,
-    found: usize,
-    a: usize,
-    x: TableRow<G>,
+    progress: Progress,
+    last: Premise<G>,
 ) -> Option<usize>
-    requires table { Table G.Grade.own phases.now (lines book.now) rows.old settled found waiting.old }
-    requires last { Last G.Grade.own phases.now (lines book.now) rows.old settled found a x }
+    requires table { Table G.Grade.own phases.now (lines book.now) rows.old progress.settled progress.found waiting.old }
+    requires last { Last G.Grade.own phases.now (lines book.now) rows.old progress.settled progress.found last.place last.row }
     requires few { length phases.now ≤ 256 }
-    ensures { Ends G.Grade.own phases.now (lines book.now) settled (Brings G.Grade.own phases.now (lines book.now) rows.old settled found x) rows.old found waiting.old rows.new waiting.new
-        (λ later n. ((k : ℕ) → k < 64 → TriedRule G.Grade.own phases.now book.now k (SettledAt G.Grade.own rows.old found settled) x later n)) result }
+    ensures { Ends G.Grade.own phases.now (lines book.now) progress.settled (Brings G.Grade.own phases.now (lines book.now) rows.old progress.settled progress.found last.row) rows.old progress.found waiting.old rows.new waiting.new
+        (λ later n. ((k : ℕ) → k < 64 → TriedRule G.Grade.own phases.now book.now k (SettledAt G.Grade.own rows.old progress.found progress.settled) last.row later n)) result }
 {
-    let mut n = found;
+    let mut n = progress.found;
     for number in 0..64 {
-        n = bring_rule(book, phases, rows, waiting, settled, n, number, a, x)?;
+        let current = Progress {
+            found: n,
+            ..progress
+        };
+        n = bring_rule(book, phases, rows, waiting, current, number, &last)?;
     }
     Some(n)
 }

@@ -1,11 +1,12 @@
 // Finding a row in the table by its two states and its wagon.
 ghost use Rattle.std.specs.Prelude.{◌≡◌, ℕ, ◌<◌, ◌≤◌, length, Decides, ◌≢◌};
-ghost use Rattle.saturation.specs.Work.{key, row_at};
+ghost use Rattle.rowtable.specs.Tables.{row_at};
+ghost use Rattle.saturation.specs.Work.{key};
 
 use grade::grade::Grade;
 use rowtable::row::{TableRow, TableState};
 
-pub fn same_state(a: TableState, b: TableState) -> bool
+pub(crate) fn same_state(a: TableState, b: TableState) -> bool
     ensures { Decides result (a ≡ b) }
 {
     match a {
@@ -27,7 +28,7 @@ fn same_key<G: Grade>(a: &TableRow<G>, b: &TableRow<G>) -> bool
 }
 
 // The place of the first of the `found` rows with the key of `wanted`, or `found`.
-pub fn find<G: Grade>(rows: &[TableRow<G>], found: usize, wanted: &TableRow<G>) -> usize
+pub(crate) fn find<G: Grade>(rows: &[TableRow<G>], found: usize, wanted: &TableRow<G>) -> usize
     requires { found ≤ length rows.now }
     ensures within { result ≤ found }
     ensures here { result < found → key (row_at G.Grade.own rows.now result) ≡ key wanted.now }

@@ -2,11 +2,12 @@
 ghost use Rattle.std.specs.Prelude.{◌≡◌, ℕ, ◌<◌, ◌≤◌, true, false, T, ◌⊎◌, length, ◌≢◌};
 ghost use Rattle.grade.specs.Waits.{sooner};
 ghost use Rattle.queue.specs.Queues.{Holds, Replaced};
-ghost use Rattle.rowtable.specs.Tables.{row_of};
+ghost use Rattle.rowtable.specs.Tables.{row_of, row_at};
 ghost use Rattle.book.specs.Lines.{lines};
-ghost use Rattle.saturation.specs.Work.{key, row_at, unranked, Covers, Placed, Table, Later, Went, Ends};
+ghost use Rattle.saturation.specs.Work.{key, unranked, Covers, Placed, Table, Later, Went, Ends};
 
 use crate::keys::find;
+use crate::progress::Progress;
 use book::tables::Book;
 use grade::grade::Grade;
 use grade::order::TotalOrder;
@@ -39,24 +40,23 @@ fn improve<G: Grade>(
     phases: &[u64],
     rows: &mut [TableRow<G>],
     waiting: &mut [Waiting<G>],
-    settled: usize,
-    found: usize,
+    progress: Progress,
     i: usize,
     row: TableRow<G>,
 )
-    requires table { Table G.Grade.own phases.now (lines book.now) rows.old settled found waiting.old }
+    requires table { Table G.Grade.own phases.now (lines book.now) rows.old progress.settled progress.found waiting.old }
     requires row { (row.rank ≡ unranked) × Placed G.Grade.own phases.now row }
-    requires later { Later G.Grade.own phases.now (lines book.now) rows.old settled found row.grade }
-    requires same { (i < found) × (key (row_at G.Grade.own rows.old i) ≡ key row) }
-    ensures { Went G.Grade.own phases.now (lines book.now) settled (λ x. x ≡ row) rows.old found waiting.old rows.new found waiting.new
-        (Covers G.Grade.own phases.now rows.new found (row_of phases.now row) row.grade) }
+    requires later { Later G.Grade.own phases.now (lines book.now) rows.old progress.settled progress.found row.grade }
+    requires same { (i < progress.found) × (key (row_at G.Grade.own rows.old i) ≡ key row) }
+    ensures { Went G.Grade.own phases.now (lines book.now) progress.settled (λ x. x ≡ row) rows.old progress.found waiting.old rows.new progress.found waiting.new
+        (Covers G.Grade.own phases.now rows.new progress.found (row_of phases.now row) row.grade) }
 {
     G::agrees();
     let old = rows[i];
-    if !keeps(&old, settled, &row.grade) {
+    if !keeps(&old, progress.settled, &row.grade) {
         requeue(
             waiting,
-            found - settled,
+            progress.found - progress.settled,
             Waiting {
                 grade: old.grade,
                 row: i,
@@ -76,53 +76,51 @@ fn append<G: Grade>(
     phases: &[u64],
     rows: &mut [TableRow<G>],
     waiting: &mut [Waiting<G>],
-    settled: usize,
-    found: usize,
+    progress: Progress,
     row: TableRow<G>,
 ) -> Option<usize>
-    requires table { Table G.Grade.own phases.now (lines book.now) rows.old settled found waiting.old }
+    requires table { Table G.Grade.own phases.now (lines book.now) rows.old progress.settled progress.found waiting.old }
     requires row { (row.rank ≡ unranked) × Placed G.Grade.own phases.now row }
-    requires nowhere { (k : ℕ) → k < found → key (row_at G.Grade.own rows.old k) ≢ key row }
-    ensures { Ends G.Grade.own phases.now (lines book.now) settled (λ x. x ≡ row) rows.old found waiting.old rows.new waiting.new
+    requires nowhere { (k : ℕ) → k < progress.found → key (row_at G.Grade.own rows.old k) ≢ key row }
+    ensures { Ends G.Grade.own phases.now (lines book.now) progress.settled (λ x. x ≡ row) rows.old progress.found waiting.old rows.new waiting.new
         (λ now-rows n. Covers G.Grade.own phases.now now-rows n (row_of phases.now row) row.grade) result }
 {
     G::agrees();
-    if found >= rows.len() || found >= waiting.len() {
+    if progress.found >= rows.len() || progress.found >= waiting.len() {
         return None;
     }
     queue::put(
         waiting,
-        found - settled,
+        progress.found - progress.settled,
         Waiting {
             grade: row.grade,
-            row: found,
+            row: progress.found,
         },
     )?;
-    rows[found] = row;
-    Some(found + 1)
+    rows[progress.found] = row;
+    Some(progress.found + 1)
 }
 
 // Lets `row` wait, unless a row with its key is settled, or waits with a grade no worse. Answers how many rows there are then; None
 // where there is no place for it.
-pub fn offer<G: Grade>(
+pub(crate) fn offer<G: Grade>(
     book: &Book,
     phases: &[u64],
     rows: &mut [TableRow<G>],
     waiting: &mut [Waiting<G>],
-    settled: usize,
-    found: usize,
+    progress: Progress,
     row: TableRow<G>,
 ) -> Option<usize>
-    requires table { Table G.Grade.own phases.now (lines book.now) rows.old settled found waiting.old }
+    requires table { Table G.Grade.own phases.now (lines book.now) rows.old progress.settled progress.found waiting.old }
     requires row { (row.rank ≡ unranked) × Placed G.Grade.own phases.now row }
-    requires later { Later G.Grade.own phases.now (lines book.now) rows.old settled found row.grade }
-    ensures { Ends G.Grade.own phases.now (lines book.now) settled (λ x. x ≡ row) rows.old found waiting.old rows.new waiting.new
+    requires later { Later G.Grade.own phases.now (lines book.now) rows.old progress.settled progress.found row.grade }
+    ensures { Ends G.Grade.own phases.now (lines book.now) progress.settled (λ x. x ≡ row) rows.old progress.found waiting.old rows.new waiting.new
         (λ now-rows n. Covers G.Grade.own phases.now now-rows n (row_of phases.now row) row.grade) result }
 {
-    let i = find(rows, found, &row);
-    if i < found {
-        improve(book, phases, rows, waiting, settled, found, i, row);
-        return Some(found);
+    let i = find(rows, progress.found, &row);
+    if i < progress.found {
+        improve(book, phases, rows, waiting, progress, i, row);
+        return Some(progress.found);
     }
-    append(book, phases, rows, waiting, settled, found, row)
+    append(book, phases, rows, waiting, progress, row)
 }

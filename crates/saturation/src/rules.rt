@@ -4,12 +4,12 @@ ghost use Rattle.rowtable.specs.declared.row.TableState.TheVariants.{Node, Head}
 ghost use Rattle.saturation.specs.Work.{row_by_order, row_by_notice, row_by_line, Starts, Goes, Noticed};
 
 use crate::keys::same_state;
-use crate::sets::{allowed, contains, phase_after};
 use grade::grade::Grade;
+use moves::phase::{after_notice, allowed, in_force};
 use rowtable::row::{Reason, TableRow, TableState};
 use text::line::{LinkLine, NoticeLine, OrderLine, WatchLine};
 
-pub fn order_row<G: Grade>(
+pub(crate) fn order_row<G: Grade>(
     order: &OrderLine,
     place: u8,
     to: TableState,
@@ -29,7 +29,7 @@ pub fn order_row<G: Grade>(
     }
 }
 
-pub fn notice_row<G: Grade>(
+pub(crate) fn notice_row<G: Grade>(
     notice: &NoticeLine,
     place: usize,
     after: &TableRow<G>,
@@ -61,7 +61,7 @@ fn line_row<G: Grade>(from: TableState, wagon: u8, to: TableState) -> TableRow<G
     }
 }
 
-pub fn link_row<G: Grade>(link: &LinkLine) -> TableRow<G>
+pub(crate) fn link_row<G: Grade>(link: &LinkLine) -> TableRow<G>
     ensures { result ≡ row_by_line G.Grade.own (Node link.now.node.value) link.now.wagon.value (Node link.now.to.value) }
 {
     line_row(
@@ -71,7 +71,7 @@ pub fn link_row<G: Grade>(link: &LinkLine) -> TableRow<G>
     )
 }
 
-pub fn watch_row<G: Grade>(watch: &WatchLine, place: usize) -> TableRow<G>
+pub(crate) fn watch_row<G: Grade>(watch: &WatchLine, place: usize) -> TableRow<G>
     requires { place < 256 }
     ensures { result ≡ row_by_line G.Grade.own (Head watch.now.mode.value place) watch.now.wagon.value (Node watch.now.node.value) }
 {
@@ -84,7 +84,7 @@ pub fn watch_row<G: Grade>(watch: &WatchLine, place: usize) -> TableRow<G>
 }
 
 // The row of an order that lays nothing down.
-pub fn lone_row<G: Grade>(order: &OrderLine, place: usize) -> TableRow<G>
+pub(crate) fn lone_row<G: Grade>(order: &OrderLine, place: usize) -> TableRow<G>
     requires { place < 256 }
     ensures { result ≡ row_by_order G.Grade.own order.now place (Head order.now.to.value place) G.Grade.best 0 0 }
 {
@@ -93,7 +93,7 @@ pub fn lone_row<G: Grade>(order: &OrderLine, place: usize) -> TableRow<G>
 }
 
 // The place of the phase in which the row starts at the head after the order, by the wagon, if the order is in force in it.
-pub fn starts<G: Grade>(
+pub(crate) fn starts<G: Grade>(
     phases: &[u64],
     order: &OrderLine,
     wagon: u16,
@@ -108,7 +108,7 @@ pub fn starts<G: Grade>(
         TableState::Head(mode, place) => {
             let i = place as usize;
             let after = mode as u16 == order.to.get() && row.wagon as u16 == wagon;
-            if after && i < phases.len() && contains(phases[i], order.number.get() as usize) {
+            if after && i < phases.len() && in_force(phases[i], order.number) {
                 Some(place)
             } else {
                 None
@@ -118,14 +118,14 @@ pub fn starts<G: Grade>(
 }
 
 // Whether `next` goes on from `row` by the wagon.
-pub fn goes<G: Grade>(wagon: u16, row: &TableRow<G>, next: &TableRow<G>) -> bool
+pub(crate) fn goes<G: Grade>(wagon: u16, row: &TableRow<G>, next: &TableRow<G>) -> bool
     ensures { Decides result (Goes wagon row.now next.now) }
 {
     next.wagon as u16 == wagon && same_state(next.from, row.to)
 }
 
 // Whether the row starts at the head after the notice, where it is carried out in the phase at this place.
-pub fn noticed<G: Grade>(
+pub(crate) fn noticed<G: Grade>(
     phases: &[u64],
     notice: &NoticeLine,
     place: usize,
@@ -142,7 +142,7 @@ pub fn noticed<G: Grade>(
             let after = mode as u16 == notice.to.get()
                 && j < phases.len()
                 && allowed(notice, phase);
-            after && phases[j] == phase_after(notice, phase)
+            after && phases[j] == after_notice(phase, notice)
         }
     }
 }

@@ -6,32 +6,19 @@ ghost use Rattle.rows.specs.Rows.{row_rules};
 ghost use Rattle.model.specs.Phases.{Opened};
 ghost use Rattle.book.specs.Lines.{lines};
 ghost use Rattle.grade.specs.Lawful.{Lawful};
-ghost use Rattle.rowtable.specs.Tables.{blank_row};
-ghost use Rattle.saturation.specs.Work.{row_at};
-ghost use Rattle.saturation.specs.Finished.{Finished};
+ghost use Rattle.rowtable.specs.Tables.{blank_row, row_at};
+ghost use Rattle.saturation.specs.Complete.{Complete};
 
 use crate::start::begin;
 use crate::turn::proceed;
 use book::tables::Book;
 use grade::grade::Grade;
 use grade::waiting::Waiting;
-use rowtable::row::{Reason, TableRow, TableState};
-
-fn blank_row<G: Grade>() -> TableRow<G>
-    ensures { result ≡ blank_row G.Grade.best }
-{
-    TableRow {
-        from: TableState::Node(0),
-        wagon: 0,
-        to: TableState::Node(0),
-        grade: G::best_grade(),
-        rank: 0,
-        reason: Reason::Line,
-    }
-}
+use rowtable::blank::blank_row;
+use rowtable::row::TableRow;
 
 // Makes every place of the row table blank.
-pub fn clear<G: Grade>(rows: &mut [TableRow<G>])
+fn clear<G: Grade>(rows: &mut [TableRow<G>])
     ensures { (k : ℕ) → row_at G.Grade.own rows.new k ≡ blank_row G.Grade.best }
 {
     for k in 0..rows.len() {
@@ -52,7 +39,7 @@ fn fill<G: Grade>(
     requires blank { (k : ℕ) → row_at G.Grade.own rows.old k ≡ blank_row G.Grade.best }
     ensures { MatchOption result
         (Outnumber (Derivation (row_rules (lines book.now))) (min (length rows.old) (length waiting.old)))
-        (λ n. Finished G.Grade.own phases.now (lines book.now) (min (length rows.old) (length waiting.old)) rows.new n) }
+        (λ n. Complete G.Grade.own phases.now (lines book.now) (min (length rows.old) (length waiting.old)) rows.new n) }
 {
     let places = rows.len();
     let found = begin(book, phases, rows, waiting)?;
@@ -62,7 +49,7 @@ fn fill<G: Grade>(
 
 // Fills the row table with the saturated rows of the book, whose opened phases are these, and answers how many they are; None where
 // they outnumber the places, and then the row table is blank.
-pub fn saturate<G: Grade>(
+pub(crate) fn saturate<G: Grade>(
     book: &Book,
     phases: &[u64],
     rows: &mut [TableRow<G>],
@@ -72,7 +59,7 @@ pub fn saturate<G: Grade>(
     requires few { length phases.now ≤ 256 }
     ensures { MatchOption result
         (Outnumber (Derivation (row_rules (lines book.now))) (min (length rows.old) (length waiting.old)) × ((k : ℕ) → row_at G.Grade.own rows.new k ≡ blank_row G.Grade.best))
-        (λ n. Finished G.Grade.own phases.now (lines book.now) (min (length rows.old) (length waiting.old)) rows.new n) }
+        (λ n. Complete G.Grade.own phases.now (lines book.now) (min (length rows.old) (length waiting.old)) rows.new n) }
 {
     grade::theorems::lawful::<G>();
     clear(rows);

@@ -8,12 +8,13 @@ ghost use Rattle.saturation.specs.Work.{Table, Ends, Begins, Turned};
 ghost use Rattle.saturation.specs.Start.{LinkBegun, WatchBegun, OrderBegun, RuleBegun};
 
 use crate::offer::offer;
+use crate::progress::Progress;
 use crate::rules::{link_row, lone_row, watch_row};
-use crate::sets::contains;
 use book::rule::Rule;
 use book::tables::Book;
 use grade::grade::Grade;
 use grade::waiting::Waiting;
+use moves::phase::in_force;
 use rowtable::row::TableRow;
 use text::line::{OrderLine, Wagons};
 
@@ -34,7 +35,8 @@ fn begin_link<G: Grade>(
 {
     let link = book.links[k];
     let row = link_row(&link);
-    offer(book, phases, rows, waiting, 0, found, row)
+    let progress = Progress { settled: 0, found };
+    offer(book, phases, rows, waiting, progress, row)
 }
 
 // Lets the row of a watch line wait, in the phase at this place.
@@ -55,7 +57,8 @@ fn begin_watch<G: Grade>(
 {
     let watch = book.watches[k];
     let row = watch_row(&watch, place);
-    offer(book, phases, rows, waiting, 0, found, row)
+    let progress = Progress { settled: 0, found };
+    offer(book, phases, rows, waiting, progress, row)
 }
 
 // Lets the row of an order that lays nothing down wait, if the order is in force in the phase at this place.
@@ -75,11 +78,12 @@ fn begin_order<G: Grade>(
     ensures { Ends G.Grade.own phases.now (lines book.now) 0 (Begins G.Grade.own phases.now (lines book.now)) rows.old found waiting.old rows.new waiting.new
         (OrderBegun G.Grade.own phases.now order.now place) result }
 {
-    if !contains(phases[place], order.number.get() as usize) {
+    if !in_force(phases[place], order.number) {
         return Some(found);
     }
     let row = lone_row(order, place);
-    offer(book, phases, rows, waiting, 0, found, row)
+    let progress = Progress { settled: 0, found };
+    offer(book, phases, rows, waiting, progress, row)
 }
 
 // Lets the rows of all link lines wait.
@@ -212,7 +216,7 @@ fn begin_rules<G: Grade>(
 }
 
 // Lets all wait that rests on no other row. Answers how many rows there are; None where not all of them have a place.
-pub fn begin<G: Grade>(
+pub(crate) fn begin<G: Grade>(
     book: &Book,
     phases: &[u64],
     rows: &mut [TableRow<G>],

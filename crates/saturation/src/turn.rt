@@ -4,6 +4,8 @@ ghost use Rattle.book.specs.Lines.{lines};
 ghost use Rattle.saturation.specs.Work.{Table, Settles, Worked, Turned, Proceeded};
 
 use crate::bring::bring;
+use crate::premise::Premise;
+use crate::progress::Progress;
 use book::tables::Book;
 use grade::grade::Grade;
 use grade::waiting::Waiting;
@@ -15,44 +17,49 @@ fn settle<G: Grade>(
     phases: &[u64],
     rows: &mut [TableRow<G>],
     waiting: &mut [Waiting<G>],
-    settled: usize,
-    found: usize,
+    progress: Progress,
 ) -> Option<usize>
-    requires waits { settled < found }
-    requires table { Table G.Grade.own phases.now (lines book.now) rows.old settled found waiting.old }
-    ensures { MatchOption result ⊥ (λ a. Settles G.Grade.own phases.now (lines book.now) rows.old settled found waiting.old a rows.new waiting.new) }
+    requires waits { progress.settled < progress.found }
+    requires table { Table G.Grade.own phases.now (lines book.now) rows.old progress.settled progress.found waiting.old }
+    ensures { MatchOption result ⊥ (λ a. Settles G.Grade.own phases.now (lines book.now) rows.old progress.settled progress.found waiting.old a rows.new waiting.new) }
 {
     G::agrees();
-    let entry = queue::take(waiting, found - settled)?;
+    let entry = queue::take(waiting, progress.found - progress.settled)?;
     let place = entry.row;
     let mut row = rows[place];
-    row.rank = settled;
+    row.rank = progress.settled;
     rows[place] = row;
     Some(place)
 }
 
 // Settles the best row that waits, and lets wait what it brings. Answers how many rows there are then; None where not all of them
 // have a place.
-pub fn turn<G: Grade>(
+fn turn<G: Grade>(
     book: &Book,
     phases: &[u64],
     rows: &mut [TableRow<G>],
     waiting: &mut [Waiting<G>],
-    settled: usize,
-    found: usize,
+    progress: Progress,
 ) -> Option<usize>
-    requires waits { settled < found }
-    requires worked { Worked G.Grade.own phases.now (lines book.now) rows.old settled found waiting.old }
+    requires waits { progress.settled < progress.found }
+    requires worked { Worked G.Grade.own phases.now (lines book.now) rows.old progress.settled progress.found waiting.old }
     requires few { length phases.now ≤ 256 }
-    ensures { Turned G.Grade.own phases.now (lines book.now) rows.old waiting.old (settled + 1) rows.new waiting.new result }
+    ensures { Turned G.Grade.own phases.now (lines book.now) rows.old waiting.old (progress.settled + 1) rows.new waiting.new result }
 {
-    let a = settle(book, phases, rows, waiting, settled, found)?;
-    let x = rows[a];
-    bring(book, phases, rows, waiting, settled + 1, found, a, x)
+    let place = settle(book, phases, rows, waiting, progress)?;
+    let last = Premise {
+        place,
+        row: rows[place],
+    };
+    let after = Progress {
+        settled: progress.settled + 1,
+        ..progress
+    };
+    bring(book, phases, rows, waiting, after, last)
 }
 
 // Settles `count` more rows, best grade first, or all where there are fewer. Answers how many are settled and how many there are.
-pub fn proceed<G: Grade>(
+pub(crate) fn proceed<G: Grade>(
     book: &Book,
     phases: &[u64],
     rows: &mut [TableRow<G>],
@@ -69,7 +76,11 @@ pub fn proceed<G: Grade>(
     let mut all = found;
     let mut left = count;
     while left > 0 && done < all {
-        all = turn(book, phases, rows, waiting, done, all)?;
+        let progress = Progress {
+            settled: done,
+            found: all,
+        };
+        all = turn(book, phases, rows, waiting, progress)?;
         done += 1;
         left -= 1;
     }

@@ -1,5 +1,7 @@
 use Rattle.std.proofs.Common.{◌≡◌, ◌+◌, ◌-◌, length, set, sym, ap, ◌∙◌, subst, zero-mul, arith}
-use Rattle.paths.specs.Cells.{width, index, cell_at, row_at}
+use Rattle.book.specs.Lines.{lines}
+use Rattle.rowtable.specs.Tables.{row_at}
+use Rattle.paths.specs.Cells.{width, index, cell_at}
 use Rattle.paths.proofs.Products.{within, small}
 use Rattle.paths.proofs.Laying.{Walk, walk_below, walk_on, walk_all}
 use Rattle.paths.proofs.lay.lay.Goals as goal
@@ -29,7 +31,7 @@ row_of_cell-place-requires g c =
 
 pub other_end-state-requires : goal.other_end-state-requires
 other_end-state-requires g c =
-    let below = walk_below c.requires.sound c.loop-at.invariant c.loop-at-test.true in
+    let below = walk_below g.G.Grade (lines c.args.book.now) c.requires.lawful c.requires.sound c.requires.layered c.loop-at.invariant c.loop-at-test.true in
     let enough = c.requires.sound.enough in
     let is : c.row_of_cell-place.result ≡ (cell_at c.args.cells.now (c.loop-at.base + index c.args.phases.now c.loop-at.state)).row =
     c.row_of_cell-place.ensures ∙ ap (λ j. (cell_at c.args.cells.now (c.loop-at.base + j)).row) c.state_index.ensures.is in
@@ -50,7 +52,6 @@ pub loop-at-init : goal.loop-at-init
 loop-at-init g c = record {
   exists = c.requires.exists;
   is = sym (zero-mul (width c.args.phases.now));
-  linked = c.requires.linked;
   some = c.requires.some;
   completes = λ made long same laid. laid;
 }
@@ -70,9 +71,9 @@ loop-at-preserved g c =
     let places = c.requires.places in
     let is : c.row_of_cell-place.result ≡ (cell_at c.args.cells.now (c.loop-at.base + index Fs c.loop-at.state)).row =
     c.row_of_cell-place.ensures ∙ ap (λ j. (cell_at c.args.cells.now (c.loop-at.base + j)).row) c.state_index.ensures.is in
-    let on = walk_on c.requires.sound c.loop-at.invariant lt (omega arith) slot next (omega arith) (ap (λ w. c.loop-at.base + w) c.layer_width-width.ensures) in
-    subst (Walk m Fs rows c.args.count c.args.cells.now c.args.start lane (set list slot c.row_of_cell-place.result) (at + 1) next) (sym c.other_end-state.ensures)
-    (subst (λ q. Walk m Fs rows c.args.count c.args.cells.now c.args.start lane (set list slot q) (at + 1) next (row_at m rows q).to) (sym is) on)
+    let on = walk_on g.G.Grade (lines c.args.book.now) c.requires.lawful c.requires.sound c.requires.layered c.loop-at.invariant lt (omega arith) slot next (omega arith) (ap (λ w. c.loop-at.base + w) c.layer_width-width.ensures) in
+    subst (Walk m (lines c.args.book.now) Fs rows c.args.count c.args.cells.now c.args.start lane (set list slot c.row_of_cell-place.result) (at + 1) next) (sym c.other_end-state.ensures)
+    (subst (λ q. Walk m (lines c.args.book.now) Fs rows c.args.count c.args.cells.now c.args.start lane (set list slot q) (at + 1) next (row_at m rows q).to) (sym is) on)
 
 pub returns : goal.returns
-returns g c = walk_all c.requires.sound c.loop-at.invariant c.loop-at-test.false
+returns g c = walk_all g.G.Grade (lines c.args.book.now) c.requires.lawful c.requires.sound c.requires.layered c.loop-at.invariant (omega arith)

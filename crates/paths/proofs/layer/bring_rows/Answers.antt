@@ -1,7 +1,8 @@
 use Rattle.std.proofs.Common.{◌≡◌, ◌+◌, ◌<◌, ◌≤◌, length, sym, refl, subst, arith}
 use Rattle.std.proofs.lemmas.List.{get_or_read}
 use Rattle.rowtable.specs.Tables.{Exists, blank_row}
-use Rattle.paths.specs.Cells.{width, row_at, brought, Layer, Via, SameFrom}
+use Rattle.paths.specs.Cells.{width, brought, Layer, Via, SameFrom}
+use Rattle.rowtable.specs.Tables.{row_at}
 use Rattle.paths.proofs.Offers.{bring_step, layer_none}
 use Rattle.paths.proofs.layer.bring_rows.Goals as goal
 

@@ -1,8 +1,7 @@
 use Rattle.std.proofs.Common.{◌≡◌, ◌+◌, length, sym, ap, ◌∙◌, subst, zero-mul, arith}
 use Rattle.book.specs.Lines.{lines}
-use Rattle.rowtable.specs.Tables.{state_of}
 use Rattle.paths.specs.Cells.{width, index, cell_at}
-use Rattle.paths.specs.Layers.{BestWay}
+use Rattle.paths.specs.Layers.{BestSaid}
 use Rattle.paths.proofs.Products.{within}
 use Rattle.paths.proofs.Laying.{told_cell}
 use Rattle.paths.proofs.layers.best_from.Goals as goal
@@ -24,9 +23,8 @@ returns g c =
     let place : c.state_index.result ≡ 0 + index Fs start = let f = c.state_index.ensures.is in omega arith in
     let is : c.grade_at.result ≡ (cell_at cells (0 + index Fs start)).grade = c.grade_at.ensures ∙ ap (λ k. (cell_at cells k).grade) place in
     record {
-      linked = c.fill_layers.ensures.linked;
-      layered = c.fill_layers.ensures.layered;
+      layered = c.fill_layers.ensures;
       is = is;
-      told = λ opens. subst (BestWay m (lines c.args.book.now) Fs c.args.rows.now c.args.count (state_of Fs start) c.args.lane.now) (sym is)
-          (told_cell (lines c.args.book.now) c.requires.sound c.args.lane.now cells start c.requires.exists (c.fill_layers.ensures.layered opens));
+      told = subst (BestSaid m (lines c.args.book.now) c.args.rows.now c.args.count start c.args.lane.now) (sym is)
+          (told_cell m (lines c.args.book.now) Fs c.args.rows.now c.args.count c.requires.sound c.args.lane.now cells start c.requires.exists c.fill_layers.ensures);
     }

@@ -1,8 +1,7 @@
-use Rattle.std.proofs.Common.{◌≡◌, ◌-◌, ◌*◌, length, drop, sym, ap, subst, zero-mul, arith}
-use Rattle.std.proofs.lemmas.List.{drop_all}
+use Rattle.std.proofs.Common.{◌≡◌, ◌-◌, ◌*◌, length, ap, arith}
 use Rattle.book.specs.Lines.{lines}
-use Rattle.paths.specs.Cells.{width, Linked}
-use Rattle.paths.proofs.Products.{layer_before, within, small, layered_last, layered_more, linked_more}
+use Rattle.paths.specs.Cells.{width}
+use Rattle.paths.proofs.Products.{layer_before, within, small, layered_last, layered_more}
 use Rattle.paths.proofs.layers.fill_layers.Goals as goal
 
 pub overflow_mul-at : goal.overflow_mul-at
@@ -32,8 +31,7 @@ last_layer-requires g c =
 pub loop-at-init : goal.loop-at-init
 loop-at-init g c = (
   omega arith,
-  λ opens. layered_last g.G.Grade (lines c.args.book.now) c.args.phases.now c.args.rows.now c.args.count c.args.lane.now c.last_layer.new.cells _ (ap (λ w. length c.args.lane.now * w) c.layer_width-width.ensures) (c.last_layer.ensures opens),
-  subst (λ w. Linked g.G.Grade c.args.phases.now c.args.rows.now c.args.count c.last_layer.new.cells w (length c.args.lane.now * width c.args.phases.now)) (sym (drop_all (length c.args.lane.now) c.args.lane.now (omega arith))) tt,
+  layered_last g.G.Grade (lines c.args.book.now) c.args.phases.now c.args.rows.now c.args.count c.args.lane.now c.last_layer.new.cells _ (ap (λ w. length c.args.lane.now * w) c.layer_width-width.ensures) c.last_layer.ensures,
 )
 
 pub fill_layer-requires : goal.fill_layer-requires
@@ -51,19 +49,9 @@ fill_layer-requires g c =
 pub loop-at-preserved : goal.loop-at-preserved
 loop-at-preserved g c = (
   let le = c.loop-at.invariant.0 in omega arith,
-  λ opens. layered_more g.G.Grade (lines c.args.book.now) c.args.phases.now c.args.rows.now c.args.count c.args.lane.now c.lawful.ensures opens c.requires.sound c.loop-at.cells c.fill_layer.new.cells c.loop-at.at _ c.loop-at-test.true c.loop-at.invariant.0
-      (ap (λ w. (c.loop-at.at - 1) * w) c.layer_width-width.ensures) c.fill_layer.ensures.layer c.fill_layer.ensures.kept (c.loop-at.invariant.1 opens),
-  linked_more g.G.Grade (lines c.args.book.now) c.args.phases.now c.args.rows.now c.args.count c.args.lane.now c.loop-at.cells c.fill_layer.new.cells c.loop-at.at _ c.loop-at-test.true c.loop-at.invariant.0
-      (ap (λ w. (c.loop-at.at - 1) * w) c.layer_width-width.ensures) c.fill_layer.ensures.layer c.fill_layer.ensures.kept c.loop-at.invariant.2,
+  layered_more g.G.Grade (lines c.args.book.now) c.args.phases.now c.args.rows.now c.args.count c.args.lane.now c.lawful.ensures c.requires.sound c.loop-at.cells c.fill_layer.new.cells c.loop-at.at _ c.loop-at-test.true c.loop-at.invariant.0
+      (ap (λ w. (c.loop-at.at - 1) * w) c.layer_width-width.ensures) c.fill_layer.ensures.layer c.fill_layer.ensures.kept c.loop-at.invariant.1,
 )
 
 pub returns : goal.returns
-returns g c =
-    let Fs = c.args.phases.now in
-    let at = c.loop-at.at in
-    let none : at ≡ 0 = let left = c.loop-at-test.false in omega arith in
-    record {
-      linked = subst (Linked g.G.Grade Fs c.args.rows.now c.args.count c.loop-at.cells c.args.lane.now) (zero-mul (width Fs))
-          (subst (λ k. Linked g.G.Grade Fs c.args.rows.now c.args.count c.loop-at.cells (drop k c.args.lane.now) (k * width Fs)) none c.loop-at.invariant.2);
-      layered = λ opens q low. c.loop-at.invariant.1 opens q (omega arith);
-    }
+returns g c q low = let left = c.loop-at-test.false in c.loop-at.invariant.1 q (omega arith)

@@ -1,7 +1,7 @@
 use Rattle.std.proofs.Common.{◌≡◌, ◌<◌, sym, ◌∙◌, subst, arith}
 use Rattle.std.proofs.lemmas.List.{get_or_read}
 use Rattle.rowtable.specs.Tables.{Exists, blank_row}
-use Rattle.paths.specs.Cells.{row_at}
+use Rattle.rowtable.specs.Tables.{row_at}
 use Rattle.paths.proofs.Indexes.{refused}
 use Rattle.paths.proofs.states.rows_sound.Goals as goal
 

@@ -1,6 +1,6 @@
 use Rattle.std.proofs.Common.{ℕ, ◌<◌}
 use Rattle.rowtable.specs.Tables.{Exists}
-use Rattle.paths.specs.Cells.{row_at}
+use Rattle.rowtable.specs.Tables.{row_at}
 use Rattle.paths.proofs.states.rows_sound.Given as goal
 
 abbrev pub invariant-loop-i : goal.invariant-loop-i

@@ -15,10 +15,10 @@ offer-requires g c =
     let t = c.requires.table in
     let Fs = c.args.phases.now in
     let d = c.args.notice.now in
-    let x = c.args.x in
+    let x = c.args.last.now.row in
     let i = c.args.place in
     let ntc = c.noticed.ensures.0 c.if-not-noticed.false in
-    let new = brings_notice t d c.requires.stands i c.args.a x ntc c.requires.last.here in
+    let new = brings_notice t d c.requires.stands i c.args.last.now.place x ntc c.requires.last.here in
     let is = c.notice_row-row.ensures in
     record {
       table = t;
@@ -32,9 +32,9 @@ returns g c =
     let t = c.requires.table in
     let Fs = c.args.phases.now in
     let d = c.args.notice.now in
-    let x = c.args.x in
+    let x = c.args.last.now.row in
     let i = c.args.place in
     let ntc = c.noticed.ensures.0 c.if-not-noticed.false in
-    let new = brings_notice t d c.requires.stands i c.args.a x ntc c.requires.last.here in
-    offered (Brings m Fs (lines c.args.book.now) c.args.rows.now c.args.settled c.args.found x) t c.offer.new.rows c.offer.new.waiting c.notice_row-row.result (row_by_notice m d i x c.args.a) c.notice_row-row.ensures new
+    let new = brings_notice t d c.requires.stands i c.args.last.now.place x ntc c.requires.last.here in
+    offered (Brings m Fs (lines c.args.book.now) c.args.rows.now c.args.progress.settled c.args.progress.found x) t c.offer.new.rows c.offer.new.waiting c.notice_row-row.result (row_by_notice m d i x c.args.last.now.place) c.notice_row-row.ensures new
     (TriedNotice m Fs d x i) c.offer.result (λ l covers h. covers) c.offer.ensures

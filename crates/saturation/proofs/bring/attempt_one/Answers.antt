@@ -13,10 +13,10 @@ offer-requires g c =
     let t = c.requires.table in
     let Fs = c.args.phases.now in
     let o = c.args.order.now in
-    let x = c.args.x in
+    let x = c.args.last.now.row in
     let i = c.in-Some.place in
     let is = c.order_row-row.ensures in
-    let new = brings_one t o c.requires.stands.0 c.args.wagon i c.args.a x c.requires.stands.1 c.in-Some.ensures c.requires.last.here in
+    let new = brings_one t o c.requires.stands.0 c.args.wagon i c.args.last.now.place x c.requires.stands.1 c.in-Some.ensures c.requires.last.here in
     record {
       table = t;
       row = (ap (λ r. r.rank) is, subst (Placed m Fs) (sym is) new.placed);
@@ -32,13 +32,13 @@ returns-in-Some g c =
     let t = c.requires.table in
     let Fs = c.args.phases.now in
     let o = c.args.order.now in
-    let x = c.args.x in
+    let x = c.args.last.now.row in
     let i = c.in-Some.place in
     let rows = c.args.rows.now in
-    let s = c.args.settled in
-    let n = c.args.found in
-    let new = brings_one t o c.requires.stands.0 c.args.wagon i c.args.a x c.requires.stands.1 c.in-Some.ensures c.requires.last.here in
-    offered (Brings m Fs (lines c.args.book.now) rows s n x) t c.offer.new.rows c.offer.new.waiting c.order_row-row.result (row_by_order m o i x.to x.grade c.args.a 0) c.order_row-row.ensures new
+    let s = c.args.progress.settled in
+    let n = c.args.progress.found in
+    let new = brings_one t o c.requires.stands.0 c.args.wagon i c.args.last.now.place x c.requires.stands.1 c.in-Some.ensures c.requires.last.here in
+    offered (Brings m Fs (lines c.args.book.now) rows s n x) t c.offer.new.rows c.offer.new.waiting c.order_row-row.result (row_by_order m o i x.to x.grade c.args.last.now.place 0) c.order_row-row.ensures new
     (TriedOne m Fs o c.args.wagon x) c.offer.result
     (λ l covers j st. subst (λ k. Covers m Fs c.offer.new.rows l (order_row o (get_or Fs k 0) (state_of Fs x.to)) (m.join (m.priced o.toll) x.grade)) (starts_once c.in-Some.ensures st) covers)
     c.offer.ensures

@@ -13,12 +13,12 @@ offer-requires g c =
     let m = g.G.Grade in
     let t = c.requires.table in
     let Fs = c.args.phases.now in
-    let o = c.args.order.now in
-    let x = c.args.x in
+    let o = c.args.order.now.line in
+    let x = c.args.one.now.row in
     let i = c.in-Some.place in
-    let y = c.args.y in
-    let is = c.order_row-row.ensures ∙ ap (λ h. row_by_order m o i y.to h c.args.a c.args.b) c.joined.ensures in
-    let new = brings_two t o c.requires.stands.0 c.args.first c.args.second i c.args.a c.args.b x y c.requires.stands.1 c.in-Some.ensures (c.goes.ensures.0 c.if-not-goes.false) c.requires.settled.0 c.requires.settled.1 in
+    let y = c.args.next.now.row in
+    let is = c.order_row-row.ensures ∙ ap (λ h. row_by_order m o i y.to h c.args.one.now.place c.args.next.now.place) c.joined-parts.ensures in
+    let new = brings_two t o c.requires.stands.0 c.args.order.now.first c.args.order.now.second i c.args.one.now.place c.args.next.now.place x y c.requires.stands.1 c.in-Some.ensures (c.goes.ensures.0 c.if-not-goes.false) c.requires.settled.0 c.requires.settled.1 in
     record {
       table = t;
       row = (ap (λ r. r.rank) is, subst (Placed m Fs) (sym is) new.placed);
@@ -36,16 +36,16 @@ returns-in-Some g c =
     let m = g.G.Grade in
     let t = c.requires.table in
     let Fs = c.args.phases.now in
-    let o = c.args.order.now in
-    let x = c.args.x in
+    let o = c.args.order.now.line in
+    let x = c.args.one.now.row in
     let i = c.in-Some.place in
-    let y = c.args.y in
+    let y = c.args.next.now.row in
     let rows = c.args.rows.now in
-    let s = c.args.settled in
-    let n = c.args.found in
-    let is = c.order_row-row.ensures ∙ ap (λ h. row_by_order m o i y.to h c.args.a c.args.b) c.joined.ensures in
-    let new = brings_two t o c.requires.stands.0 c.args.first c.args.second i c.args.a c.args.b x y c.requires.stands.1 c.in-Some.ensures (c.goes.ensures.0 c.if-not-goes.false) c.requires.settled.0 c.requires.settled.1 in
-    offered (BringsBoth m Fs (lines c.args.book.now) rows s n x y) t c.offer.new.rows c.offer.new.waiting c.order_row-row.result (row_by_order m o i y.to (m.join x.grade y.grade) c.args.a c.args.b) is new
-    (TriedTwo m Fs o c.args.first c.args.second x y) c.offer.result
+    let s = c.args.progress.settled in
+    let n = c.args.progress.found in
+    let is = c.order_row-row.ensures ∙ ap (λ h. row_by_order m o i y.to h c.args.one.now.place c.args.next.now.place) c.joined-parts.ensures in
+    let new = brings_two t o c.requires.stands.0 c.args.order.now.first c.args.order.now.second i c.args.one.now.place c.args.next.now.place x y c.requires.stands.1 c.in-Some.ensures (c.goes.ensures.0 c.if-not-goes.false) c.requires.settled.0 c.requires.settled.1 in
+    offered (BringsBoth m Fs (lines c.args.book.now) rows s n x y) t c.offer.new.rows c.offer.new.waiting c.order_row-row.result (row_by_order m o i y.to (m.join x.grade y.grade) c.args.one.now.place c.args.next.now.place) is new
+    (TriedTwo m Fs o c.args.order.now.first c.args.order.now.second x y) c.offer.result
     (λ l covers j st go. subst (λ k. Covers m Fs c.offer.new.rows l (order_row o (get_or Fs k 0) (state_of Fs y.to)) (m.join (m.priced o.toll) (m.join x.grade y.grade))) (starts_once c.in-Some.ensures st) covers)
     c.offer.ensures

@@ -1,5 +1,6 @@
 use Rattle.std.proofs.Common.{arith}
-use Rattle.saturation.specs.Work.{SettledAt, TriedRule}
+use Rattle.rowtable.specs.Reasons.{SettledAt}
+use Rattle.saturation.specs.Work.{TriedRule}
 use Rattle.saturation.proofs.Growth.{went_none, went_so, went_on, full_on, at_none, below_next}
 use Rattle.saturation.proofs.Brings.{brings_back, last_on, rule_later, rule_from}
 use Rattle.saturation.proofs.bring.bring.Goals as goal
@@ -10,7 +11,7 @@ bring_rule-requires g c =
     record { table = w.table; last = last_on w.grown c.requires.last; number = omega arith; few = c.requires.few }
 
 pub returns-in_err-n : goal.returns-in_err-n
-returns-in_err-n g c = at_none _ _ c.from_residual.result c.from_residual.ensures (full_on c.loop-number.invariant (brings_back c.args.x c.loop-number.invariant.grown) c.in_err-n.ensures)
+returns-in_err-n g c = at_none _ _ c.from_residual.result c.from_residual.ensures (full_on c.loop-number.invariant (brings_back c.args.last.row c.loop-number.invariant.grown) c.in_err-n.ensures)
 
 pub loop-number-preserved : goal.loop-number-preserved
 loop-number-preserved g c =
@@ -18,11 +19,11 @@ loop-number-preserved g c =
     let w = c.loop-number.invariant in
     let Fs = c.args.phases.now in
     let b = c.args.book.now in
-    let x = c.args.x in
-    let s = c.args.settled in
+    let x = c.args.last.row in
+    let s = c.args.progress.settled in
     let new = c.bring_rule.new.rows in
     let n = c.in_ok-n.n in
-    let At = SettledAt m c.args.rows.now c.args.found s in
+    let At = SettledAt m c.args.rows.now c.args.progress.found s in
     went_on w (brings_back x w.grown)
     (λ grown a tried. below_next (λ k. TriedRule m Fs b k At x new n) c.loop-number.number (λ k lt. rule_later m Fs x w.table.lawful grown b k At (a k lt)) (rule_from m Fs x {At = SettledAt m c.loop-number.rows c.loop-number.n s} w.grown.kept new n b c.loop-number.number tried))
     c.in_ok-n.ensures

@@ -11,7 +11,7 @@ attempt_notice-requires g c =
     record { table = w.table; last = last_on w.grown c.requires.last; stands = c.requires.stands; place = (omega arith, few) }
 
 pub returns-in_err-n : goal.returns-in_err-n
-returns-in_err-n g c = at_none _ _ c.from_residual.result c.from_residual.ensures (full_on c.loop-place.invariant (brings_back c.args.x c.loop-place.invariant.grown) c.in_err-n.ensures)
+returns-in_err-n g c = at_none _ _ c.from_residual.result c.from_residual.ensures (full_on c.loop-place.invariant (brings_back c.args.last.now.row c.loop-place.invariant.grown) c.in_err-n.ensures)
 
 pub loop-place-preserved : goal.loop-place-preserved
 loop-place-preserved g c =
@@ -20,8 +20,8 @@ loop-place-preserved g c =
     let Fs = c.args.phases.now in
     let new = c.attempt_notice.new.rows in
     let n = c.in_ok-n.n in
-    went_on w (brings_back c.args.x w.grown)
-    (λ grown a b. below_next (λ i. TriedNotice m Fs c.args.notice.now c.args.x i new n) c.loop-place.place (λ i lt h. covers_later _ _ w.table.lawful grown (a i lt h)) b)
+    went_on w (brings_back c.args.last.now.row w.grown)
+    (λ grown a b. below_next (λ i. TriedNotice m Fs c.args.notice.now c.args.last.now.row i new n) c.loop-place.place (λ i lt h. covers_later _ _ w.table.lawful grown (a i lt h)) b)
     c.in_ok-n.ensures
 
 pub loop-place-init : goal.loop-place-init

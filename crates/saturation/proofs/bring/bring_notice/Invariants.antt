@@ -6,5 +6,5 @@ use Rattle.saturation.proofs.bring.bring_notice.Given as goal
 abbrev pub invariant-loop-place : goal.invariant-loop-place
 invariant-loop-place g l =
     let m = g.G.Grade in
-    Went m l.phases (lines l.book) l.settled (Brings m l.phases (lines l.book) l.initial.rows l.settled l.found l.x) l.initial.rows l.found l.initial.waiting l.rows l.n l.waiting
-    ((i : ℕ) → i < l.place → TriedNotice m l.phases l.notice l.x i l.rows l.n)
+    Went m l.phases (lines l.book) l.progress.settled (Brings m l.phases (lines l.book) l.initial.rows l.progress.settled l.progress.found l.last.row) l.initial.rows l.progress.found l.initial.waiting l.rows l.n l.waiting
+    ((i : ℕ) → i < l.place → TriedNotice m l.phases l.notice l.last.row i l.rows l.n)

@@ -1,6 +1,7 @@
 use Rattle.std.proofs.Common.{ℕ, ◌<◌, [], ◌∷◌, map, sym, ap, ◌∙◌, subst, ap₂, subst₂}
 use Rattle.book.specs.Lines.{lines}
-use Rattle.saturation.specs.Work.{SettledAt, Brings, TriedOne, TriedPair, TriedPairAt, TriedOrder}
+use Rattle.rowtable.specs.Reasons.{SettledAt}
+use Rattle.saturation.specs.Work.{Brings, TriedOne, TriedPair, TriedPairAt, TriedOrder}
 use Rattle.saturation.proofs.Growth.{went_none, ends_so}
 use Rattle.text.specs.Forms.{listed}
 use Rattle.saturation.proofs.bring.bring_order.Goals as goal
@@ -10,7 +11,7 @@ returns-in-Zero g c =
     let m = g.G.Grade in
     let o = c.args.order.now in
     let rows = c.args.rows.now in
-    went_none c.requires.table (subst (λ w. TriedOrder m c.args.phases.now o w (SettledAt m rows c.args.found c.args.settled) c.args.x rows c.args.found) (sym c.in-Zero.is) tt)
+    went_none c.requires.table (subst (λ w. TriedOrder m c.args.phases.now o w (SettledAt m rows c.args.progress.found c.args.progress.settled) c.args.last.now.row rows c.args.progress.found) (sym c.in-Zero.is) tt)
 
 pub attempt_one-requires : goal.attempt_one-requires
 attempt_one-requires g c =
@@ -21,11 +22,11 @@ returns-in-One g c =
     let m = g.G.Grade in
     let Fs = c.args.phases.now in
     let o = c.args.order.now in
-    let x = c.args.x in
+    let x = c.args.last.now.row in
     let ls = lines c.args.book.now in
     let rows = c.args.rows.now in
-    let s = c.args.settled in
-    let n = c.args.found in
+    let s = c.args.progress.settled in
+    let n = c.args.progress.found in
     let At = SettledAt m rows n s in
     let new = c.attempt_one.new.rows in
     ends_so m Fs ls s (Brings m Fs ls rows s n x) rows n c.args.waiting.now new c.attempt_one.new.waiting (TriedOne m Fs o c.get.result x) (TriedOrder m Fs o o.wagons At x) c.attempt_one.result
@@ -41,11 +42,11 @@ returns-in-Two g c =
     let m = g.G.Grade in
     let Fs = c.args.phases.now in
     let o = c.args.order.now in
-    let x = c.args.x in
+    let x = c.args.last.now.row in
     let ls = lines c.args.book.now in
     let rows = c.args.rows.now in
-    let s = c.args.settled in
-    let n = c.args.found in
+    let s = c.args.progress.settled in
+    let n = c.args.progress.found in
     let At = SettledAt m rows n s in
     let new = c.bring_pairs.new.rows in
     let k = c.get-in-Two.result in

@@ -3,8 +3,8 @@ use Rattle.book.specs.Lines.{lines}
 use Rattle.saturation.specs.Work.{Went, Brings, TriedPairAt}
 use Rattle.saturation.proofs.bring.bring_pairs.Given as goal
 
-abbrev pub invariant-loop-b : goal.invariant-loop-b
-invariant-loop-b g l =
+abbrev pub invariant-loop-place : goal.invariant-loop-place
+invariant-loop-place g l =
     let m = g.G.Grade in
-    Went m l.phases (lines l.book) l.settled (Brings m l.phases (lines l.book) l.initial.rows l.settled l.found l.x) l.initial.rows l.found l.initial.waiting l.rows l.n l.waiting
-    ((b : ℕ) → b < l.b → TriedPairAt m l.phases l.order l.first l.second l.x l.initial.rows l.found l.settled b l.rows l.n)
+    Went m l.phases (lines l.book) l.progress.settled (Brings m l.phases (lines l.book) l.initial.rows l.progress.settled l.progress.found l.last.row) l.initial.rows l.progress.found l.initial.waiting l.rows l.n l.waiting
+    ((b : ℕ) → b < l.place → TriedPairAt m l.phases l.order.line l.order.first l.order.second l.last.row l.initial.rows l.progress.found l.progress.settled b l.rows l.n)

@@ -1,7 +1,8 @@
 use Rattle.std.proofs.Common.{ℕ, ◌<◌, length, ◌∙◌, arith}
 use Rattle.std.proofs.lemmas.List.{get_or_default}
 use Rattle.book.specs.Lines.{lines}
-use Rattle.saturation.specs.Work.{SettledAt, Brings, TriedOrder, TriedNotice, TriedRule}
+use Rattle.rowtable.specs.Reasons.{SettledAt}
+use Rattle.saturation.specs.Work.{Brings, TriedOrder, TriedNotice, TriedRule}
 use Rattle.saturation.proofs.Growth.{went_none, ends_so}
 use Rattle.saturation.proofs.Brings.{rule_none, rule_order, rule_notice}
 use Rattle.book.proofs.Standing.{order_at, notice_at}
@@ -13,11 +14,11 @@ returns-in-Free g c =
     let m = g.G.Grade in
     let Fs = c.args.phases.now in
     let b = c.args.book.now in
-    let x = c.args.x in
+    let x = c.args.last.now.row in
     let ls = lines c.args.book.now in
     let rows = c.args.rows.now in
-    let s = c.args.settled in
-    let n = c.args.found in
+    let s = c.args.progress.settled in
+    let n = c.args.progress.found in
     let At = SettledAt m rows n s in
     let number = c.args.number in
     let long = b.numbered.0 in
@@ -30,11 +31,11 @@ bring_order-requires g c =
     let m = g.G.Grade in
     let Fs = c.args.phases.now in
     let b = c.args.book.now in
-    let x = c.args.x in
+    let x = c.args.last.now.row in
     let ls = lines c.args.book.now in
     let rows = c.args.rows.now in
-    let s = c.args.settled in
-    let n = c.args.found in
+    let s = c.args.progress.settled in
+    let n = c.args.progress.found in
     let At = SettledAt m rows n s in
     let number = c.args.number in
     let long = b.numbered.0 in
@@ -47,11 +48,11 @@ returns-in-Order g c =
     let m = g.G.Grade in
     let Fs = c.args.phases.now in
     let b = c.args.book.now in
-    let x = c.args.x in
+    let x = c.args.last.now.row in
     let ls = lines c.args.book.now in
     let rows = c.args.rows.now in
-    let s = c.args.settled in
-    let n = c.args.found in
+    let s = c.args.progress.settled in
+    let n = c.args.progress.found in
     let At = SettledAt m rows n s in
     let number = c.args.number in
     let long = b.numbered.0 in
@@ -67,11 +68,11 @@ bring_notice-requires g c =
     let m = g.G.Grade in
     let Fs = c.args.phases.now in
     let b = c.args.book.now in
-    let x = c.args.x in
+    let x = c.args.last.now.row in
     let ls = lines c.args.book.now in
     let rows = c.args.rows.now in
-    let s = c.args.settled in
-    let n = c.args.found in
+    let s = c.args.progress.settled in
+    let n = c.args.progress.found in
     let At = SettledAt m rows n s in
     let number = c.args.number in
     let long = b.numbered.0 in
@@ -84,11 +85,11 @@ returns-in-Notice g c =
     let m = g.G.Grade in
     let Fs = c.args.phases.now in
     let b = c.args.book.now in
-    let x = c.args.x in
+    let x = c.args.last.now.row in
     let ls = lines c.args.book.now in
     let rows = c.args.rows.now in
-    let s = c.args.settled in
-    let n = c.args.found in
+    let s = c.args.progress.settled in
+    let n = c.args.progress.found in
     let At = SettledAt m rows n s in
     let number = c.args.number in
     let long = b.numbered.0 in

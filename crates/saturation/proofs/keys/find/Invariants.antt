@@ -1,5 +1,6 @@
 use Rattle.std.proofs.Common.{◌≡◌, ℕ, ◌<◌}
-use Rattle.saturation.specs.Work.{key, row_at}
+use Rattle.rowtable.specs.Tables.{row_at}
+use Rattle.saturation.specs.Work.{key}
 use Rattle.saturation.proofs.keys.find.Given as goal
 
 abbrev pub invariant-loop-i : goal.invariant-loop-i

@@ -1,6 +1,5 @@
 use Rattle.std.proofs.Common.{◌≡◌, ℕ, ◌<◌}
-use Rattle.rowtable.specs.Tables.{blank_row}
-use Rattle.saturation.specs.Work.{row_at}
+use Rattle.rowtable.specs.Tables.{blank_row, row_at}
 use Rattle.saturation.proofs.saturate.clear.Given as goal
 
 abbrev pub invariant-loop-k : goal.invariant-loop-k

@@ -3,7 +3,7 @@ use Rattle.deduction.specs.Counting.{Outnumber}
 use Rattle.deduction.specs.Derivations.{Derivation}
 use Rattle.rows.specs.Rows.{row_rules}
 use Rattle.book.specs.Lines.{lines}
-use Rattle.saturation.specs.Finished.{Finished}
+use Rattle.saturation.specs.Complete.{Complete}
 use Rattle.saturation.proofs.Growth.{at_none}
 use Rattle.saturation.proofs.Finishing.{table_none, finished}
 use Rattle.saturation.proofs.saturate.fill.Goals as goal
@@ -31,4 +31,4 @@ returns g c =
     let r = done.table.room in
     let i = done.table.in_range in
     let all : c.in_ok-count.field-0-0 ≡ c.in_ok-count.count = ⊎_elim (λ h. omega arith) (λ h. h.0) count in
-    subst (λ places. Finished m c.args.phases.now (lines c.args.book.now) places c.proceed.new.rows c.in_ok-count.count) (ap₂ min (long_2 ∙ long) (wide_2 ∙ wide)) (finished done all)
+    subst (λ places. Complete m c.args.phases.now (lines c.args.book.now) places c.proceed.new.rows c.in_ok-count.count) (ap₂ min (long_2 ∙ long) (wide_2 ∙ wide)) (finished done all)

@@ -3,7 +3,7 @@ use Rattle.deduction.specs.Counting.{Outnumber}
 use Rattle.deduction.specs.Derivations.{Derivation}
 use Rattle.rows.specs.Rows.{row_rules}
 use Rattle.book.specs.Lines.{lines}
-use Rattle.saturation.specs.Finished.{Finished}
+use Rattle.saturation.specs.Complete.{Complete}
 use Rattle.saturation.proofs.saturate.saturate.Goals as goal
 
 pub returns-in-None : goal.returns-in-None
@@ -12,4 +12,4 @@ returns-in-None g c =
 
 pub returns-in-Some : goal.returns-in-Some
 returns-in-Some g c =
-    subst (λ x. Finished g.G.Grade c.args.phases.now (lines c.args.book.now) (min x (length c.args.waiting.now)) c.fill.new.rows c.in-Some.count) c.clear.auto.rows c.in-Some.ensures
+    subst (λ x. Complete g.G.Grade c.args.phases.now (lines c.args.book.now) (min x (length c.args.waiting.now)) c.fill.new.rows c.in-Some.count) c.clear.auto.rows c.in-Some.ensures

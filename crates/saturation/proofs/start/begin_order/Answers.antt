@@ -1,6 +1,5 @@
-use Rattle.std.proofs.Common.{◌≡◌, true, get_or, sym, ap, ◌∙◌, subst, arith}
+use Rattle.std.proofs.Common.{get_or, sym, ap, ◌∙◌, subst, arith}
 use mathlib.Core.Bool.{false≢true}
-use Rattle.text.specs.Phases.{has}
 use Rattle.book.specs.Lines.{lines}
 use Rattle.rows.specs.Rows.{order_row, head}
 use Rattle.rowtable.specs.declared.row.TableState.TheVariants.{Head}
@@ -11,9 +10,9 @@ use Rattle.saturation.proofs.Brings.{offered}
 use Rattle.saturation.proofs.Begins.{begins_order}
 use Rattle.saturation.proofs.start.begin_order.Goals as goal
 
-pub returns-then-not-contains : goal.returns-then-not-contains
-returns-then-not-contains g c =
-    went_none c.requires.table (λ lone in_force. absurd (false≢true (c.if-not-contains.ensures ∙ subst (λ k. has (get_or c.args.phases.now c.args.place 0) k ≡ true) (sym c.get.ensures) in_force)))
+pub returns-then-not-in_force : goal.returns-then-not-in_force
+returns-then-not-in_force g c =
+    went_none c.requires.table (λ lone in_force. absurd (false≢true (c.if-not-in_force.ensures ∙ in_force)))
 
 pub offer-requires : goal.offer-requires
 offer-requires g c =
@@ -23,7 +22,7 @@ offer-requires g c =
     let b = c.args.book.now in
     let o = c.args.order.now in
     let i = c.args.place in
-    let in_force = subst (λ k. has (get_or Fs i 0) k ≡ true) c.get.ensures (sym c.if-not-contains.ensures) in
+    let in_force = sym c.if-not-in_force.ensures in
     let is = c.lone_row-row.ensures in
     let new = begins_order t.lawful Fs b o c.requires.order.0 c.requires.order.1 i c.requires.place (t.phases.different.each i c.requires.place) in_force in
     record {
@@ -40,7 +39,7 @@ returns g c =
     let b = c.args.book.now in
     let o = c.args.order.now in
     let i = c.args.place in
-    let in_force = subst (λ k. has (get_or Fs i 0) k ≡ true) c.get.ensures (sym c.if-not-contains.ensures) in
+    let in_force = sym c.if-not-in_force.ensures in
     let is = c.lone_row-row.ensures in
     let new = begins_order t.lawful Fs b o c.requires.order.0 c.requires.order.1 i c.requires.place (t.phases.different.each i c.requires.place) in_force in
     offered (Begins m Fs (lines b)) t c.offer.new.rows c.offer.new.waiting c.lone_row-row.result (row_by_order m o i (Head o.to.value i) m.best 0 0) is new (OrderBegun m Fs o i) c.offer.result

@@ -2,8 +2,8 @@ use Rattle.std.proofs.Common.{◌≡◌, ◌-◌, ◌<◌, length, ap, subst, �
 use Rattle.std.proofs.lemmas.List.{get_or_read}
 use Rattle.grade.specs.Waits.{sooner}
 use Rattle.queue.specs.Queues.{Taken}
-use Rattle.rowtable.specs.Tables.{blank_row}
-use Rattle.saturation.specs.Work.{row_at, ranked_as}
+use Rattle.rowtable.specs.Tables.{blank_row, row_at}
+use Rattle.saturation.specs.Work.{ranked_as}
 use Rattle.saturation.proofs.Growth.{at_none}
 use Rattle.saturation.proofs.Settling.{taken_within, settles}
 use Rattle.saturation.proofs.turn.settle.Goals as goal
@@ -11,7 +11,7 @@ use Rattle.saturation.proofs.turn.settle.Goals as goal
 pub bounds-rows-place : goal.bounds-rows-place
 bounds-rows-place g c =
     let same : g.G.TotalOrder.before ≡ g.G.Grade.noworse = λ j a b. c.agrees.ensures a b j in
-    let taken = subst (λ f. Taken (sooner f) c.args.waiting.now c.take.new.queue (c.args.found - c.args.settled) c.in_ok-entry.entry) same c.in_ok-entry.ensures in
+    let taken = subst (λ f. Taken (sooner f) c.args.waiting.now c.take.new.queue (c.args.progress.found - c.args.progress.settled) c.in_ok-entry.entry) same c.in_ok-entry.ensures in
     let lt = taken_within c.requires.table c.in_ok-entry.entry taken in
     let r = c.requires.table.room in
     omega arith
@@ -19,7 +19,7 @@ bounds-rows-place g c =
 pub bounds-rows-place-2 : goal.bounds-rows-place-2
 bounds-rows-place-2 g c =
     let same : g.G.TotalOrder.before ≡ g.G.Grade.noworse = λ j a b. c.agrees.ensures a b j in
-    let taken = subst (λ f. Taken (sooner f) c.args.waiting.now c.take.new.queue (c.args.found - c.args.settled) c.in_ok-entry.entry) same c.in_ok-entry.ensures in
+    let taken = subst (λ f. Taken (sooner f) c.args.waiting.now c.take.new.queue (c.args.progress.found - c.args.progress.settled) c.in_ok-entry.entry) same c.in_ok-entry.ensures in
     let lt = taken_within c.requires.table c.in_ok-entry.entry taken in
     let r = c.requires.table.room in
     omega arith
@@ -27,7 +27,7 @@ bounds-rows-place-2 g c =
 pub offset_bounds-rows-place : goal.offset_bounds-rows-place
 offset_bounds-rows-place g c =
     let same : g.G.TotalOrder.before ≡ g.G.Grade.noworse = λ j a b. c.agrees.ensures a b j in
-    let taken = subst (λ f. Taken (sooner f) c.args.waiting.now c.take.new.queue (c.args.found - c.args.settled) c.in_ok-entry.entry) same c.in_ok-entry.ensures in
+    let taken = subst (λ f. Taken (sooner f) c.args.waiting.now c.take.new.queue (c.args.progress.found - c.args.progress.settled) c.in_ok-entry.entry) same c.in_ok-entry.ensures in
     let lt = taken_within c.requires.table c.in_ok-entry.entry taken in
     let r = c.requires.table.room in
     let low : c.in_ok-entry.entry.row < length c.args.rows.now = omega arith in
@@ -36,7 +36,7 @@ offset_bounds-rows-place g c =
 pub offset_bounds-rows-place-2 : goal.offset_bounds-rows-place-2
 offset_bounds-rows-place-2 g c =
     let same : g.G.TotalOrder.before ≡ g.G.Grade.noworse = λ j a b. c.agrees.ensures a b j in
-    let taken = subst (λ f. Taken (sooner f) c.args.waiting.now c.take.new.queue (c.args.found - c.args.settled) c.in_ok-entry.entry) same c.in_ok-entry.ensures in
+    let taken = subst (λ f. Taken (sooner f) c.args.waiting.now c.take.new.queue (c.args.progress.found - c.args.progress.settled) c.in_ok-entry.entry) same c.in_ok-entry.ensures in
     let lt = taken_within c.requires.table c.in_ok-entry.entry taken in
     let r = c.requires.table.room in
     let low : c.in_ok-entry.entry.row < length c.args.rows.now = omega arith in
@@ -55,8 +55,8 @@ returns g c =
     let rows = c.args.rows.now in
     let e = c.in_ok-entry.entry in
     let same : g.G.TotalOrder.before ≡ g.G.Grade.noworse = λ j a b. c.agrees.ensures a b j in
-    let taken = subst (λ f. Taken (sooner f) c.args.waiting.now c.take.new.queue (c.args.found - c.args.settled) e) same c.in_ok-entry.ensures in
+    let taken = subst (λ f. Taken (sooner f) c.args.waiting.now c.take.new.queue (c.args.progress.found - c.args.progress.settled) e) same c.in_ok-entry.ensures in
     let lt = taken_within t e taken in
     let r = t.room in
     let x : c.index-rows-place.result ≡ row_at m rows e.row = get_or_read rows e.row c.index-rows-place.result (omega arith) c.index-rows-place.is (blank_row m.best) in
-    settles t e taken (ranked_as c.index-rows-place.result c.args.settled) (ap (λ y. ranked_as y c.args.settled) x) c.take.auto.queue
+    settles t e taken (ranked_as c.index-rows-place.result c.args.progress.settled) (ap (λ y. ranked_as y c.args.progress.settled) x) c.take.auto.queue

@@ -1,0 +1,9 @@
+use text::line::OrderLine;
+
+// An order that lays two wagons down, with these wagons, the top one first.
+#[derive(Clone, Copy)]
+pub(crate) struct PairOrder {
+    pub(crate) line: OrderLine,
+    pub(crate) first: u16,
+    pub(crate) second: u16,
+}
