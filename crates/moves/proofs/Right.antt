@@ -13,7 +13,7 @@ use Rattle.text.specs.Meaning.{SaysAs}
 use Rattle.model.specs.Moves.{Position, at, Step}
 use Rattle.moves.specs.declared.refusal.MoveRefusal.{MoveRefusal}
 use Rattle.moves.specs.declared.refusal.MoveRefusal.TheVariants.{NoPosition, NotAccepted, NotInForce, Forbidden, NoRoom}
-use Rattle.moves.specs.declared.moving.Moved.{Moved}
+use Rattle.moves.specs.declared.stage.Stage.{Stage}
 use Rattle.moves.specs.Refusals.{refusal_number}
 use Rattle.moves.specs.Moving.{Handed, start, wagons_fit, is_position, number_of, in_phase, takes, carried, Told, refused, moved, text_says}
 use Rattle.moves.specs.Meaning.{Proper, MovesTo, Right}
@@ -31,13 +31,13 @@ module _ (h : Handed) where
   abbrev wagons : Bool
   wagons = wagons_fit (start h).lane
 
-  proper_from : is_position h.mode h.buffer h.len ≡ true → Proper h
+  proper_from : is_position h.stage h.buffer ≡ true → Proper h
   proper_from e =
-      let (p, q) = and_parts (leb h.len (length h.buffer)) (leb h.mode 15 && wagons) e in
-      let (m, w) = and_parts (leb h.mode 15) wagons q in
+      let (p, q) = and_parts (leb h.stage.length (length h.buffer)) (leb h.stage.mode 15 && wagons) e in
+      let (m, w) = and_parts (leb h.stage.mode 15) wagons q in
       record { within = leb-true _ _ p; mode = leb-true _ _ m; wagons = fit_all _ w }
 
-  proper_to : Proper h → is_position h.mode h.buffer h.len ≡ true
+  proper_to : Proper h → is_position h.stage h.buffer ≡ true
   proper_to p = and_from _ _ (le-leb _ _ p.within) (and_from _ _ (le-leb _ _ p.mode) (all_fit _ p.wagons))
 
   -- the lane after a move, in front of the buffer
@@ -59,21 +59,21 @@ Whole s h t = Right s h t.answer t.buffer
 
 -- what a rule makes of what is handed over: one of five refusals, or the move
 rule_cases : (h : Handed) (r : Rule) (P : Told → Type 0)
-    → (is_position h.mode h.buffer h.len ≡ false → P (refused h.buffer NoPosition))
+    → (is_position h.stage h.buffer ≡ false → P (refused h.buffer NoPosition))
     → (eqb h.number (number_of r) ≡ false → P (refused h.buffer (NotAccepted h.number)))
-    → (in_phase r h.phase ≡ false → P (refused h.buffer NotInForce))
-    → (takes r h.mode (start h).lane ≡ false → P (refused h.buffer Forbidden))
+    → (in_phase r h.stage.phase ≡ false → P (refused h.buffer NotInForce))
+    → (takes r h.stage.mode (start h).lane ≡ false → P (refused h.buffer Forbidden))
     → (leb (length (carried r (start h)).lane) (length h.buffer) ≡ false → P (refused h.buffer NoRoom))
-    → (is_position h.mode h.buffer h.len ≡ true → eqb h.number (number_of r) ≡ true → in_phase r h.phase ≡ true
-    → takes r h.mode (start h).lane ≡ true
+    → (is_position h.stage h.buffer ≡ true → eqb h.number (number_of r) ≡ true → in_phase r h.stage.phase ≡ true
+    → takes r h.stage.mode (start h).lane ≡ true
     → leb (length (carried r (start h)).lane) (length h.buffer) ≡ true
     → P (moved h.buffer (carried r (start h))))
     → P (text_says (Ok r) h)
 rule_cases h r P no_position not_accepted no_force forbidden no_room all =
-    cond_both (is_position h.mode h.buffer h.len) _ _ P
+    cond_both (is_position h.stage h.buffer) _ _ P
     (λ a. cond_both (eqb h.number (number_of r)) _ _ P
-    (λ b. cond_both (in_phase r h.phase) _ _ P
-    (λ c. cond_both (takes r h.mode (start h).lane) _ _ P
+    (λ b. cond_both (in_phase r h.stage.phase) _ _ P
+    (λ c. cond_both (takes r h.stage.mode (start h).lane) _ _ P
     (λ d. cond_both (leb (length (carried r (start h)).lane) (length h.buffer)) _ _ P (all a b c d) no_room) forbidden) no_force) not_accepted) no_position
 
 module _ (s : List ℕ) (h : Handed) (r : Rule) (says : SaysAs rule_forms s (Ok (rule_line r))) (alone : (l : Line) → SaysAs rule_forms s (Ok l) → l ≡ rule_line r) where
@@ -87,12 +87,12 @@ module _ (s : List ℕ) (h : Handed) (r : Rule) (says : SaysAs rule_forms s (Ok 
   no_move : (test : Bool) → ((y : Position) → MovesTo s h y → test ≡ true) → test ≡ false → (y : Position) → MovesTo s h y → ⊥
   no_move test every fails y m = both_ways test fails (every y m)
 
-  made : Proper h → eqb h.number (number_of r) ≡ true → in_phase r h.phase ≡ true → takes r h.mode (start h).lane ≡ true
+  made : Proper h → eqb h.number (number_of r) ≡ true → in_phase r h.stage.phase ≡ true → takes r h.stage.mode (start h).lane ≡ true
       → leb (length (carried r (start h)).lane) (length h.buffer) ≡ true → Whole s h (moved h.buffer (carried r (start h)))
   made proper named force top fits =
       let y = carried r (start h) in
       let le : length y.lane ≤ length h.buffer = leb-true _ _ fits in
-      let (m, n, step) = carries_step r h.mode h.phase (start h).lane force top in
+      let (m, n, step) = carries_step r h.stage.mode h.stage.phase (start h).lane force top in
       let same : y ≡ at y.mode y.phase (take (length y.lane) (after h y le)) = λ i. at y.mode y.phase (sym (lane_after h y le) i) in
       record {
         moves = subst (MovesTo s h) same
@@ -135,16 +135,16 @@ text_right s h (Err e) says alone =
     }
 
 -- no refusal under number 5
-abbrev NotFive : Result Moved MoveRefusal → Type 0
+abbrev NotFive : Result Stage MoveRefusal → Type 0
 NotFive x = (e : MoveRefusal) → x ≡ Err e → refusal_number e ≡ 5 → ⊥
 
-err_same : (k e : MoveRefusal) → ◌≡◌ {A = Result Moved MoveRefusal} (Err k) (Err e) → k ≡ e
+err_same : (k e : MoveRefusal) → ◌≡◌ {A = Result Stage MoveRefusal} (Err k) (Err e) → k ≡ e
 err_same k e q = cc q
 
 err_not_five : (k : MoveRefusal) → (refusal_number k ≡ 5 → ⊥) → NotFive (Err k)
 err_not_five k other e q f = other (ap refusal_number (err_same k e q) ∙ f)
 
-ok_not_five : (v : Moved) → NotFive (Ok v)
+ok_not_five : (v : Stage) → NotFive (Ok v)
 ok_not_five v e q f = let z : ◌≡◌ {A = ℕ} 0 1 = cc in omega arith
 
 pub text_not_five : (h : Handed) (x : Result Rule LineRefusal) → ((q : ℕ) → x ≡ Err (NotRising q) → ⊥) → NotFive (text_says x h).answer

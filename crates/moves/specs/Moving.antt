@@ -9,24 +9,26 @@ use Rattle.text.specs.Forms.{listed}
 use Rattle.text.specs.Reading.{read_rule}
 use Rattle.model.specs.Phases.{after}
 use Rattle.model.specs.Moves.{Position, at}
-use Rattle.moves.specs.declared.moving.Moved.{Moved}
+use Rattle.moves.specs.declared.stage.Stage.{Stage}
 use Rattle.moves.specs.declared.refusal.MoveRefusal.{MoveRefusal}
 use Rattle.moves.specs.declared.refusal.MoveRefusal.TheVariants.{Text, NoPosition, NotAccepted, NotInForce, Forbidden, NoRoom}
 
--- a mode, a phase, a buffer, how many of its first bytes are the lane, and the number to carry out
+-- a mode, a phase, and how many of a buffer's first bytes are the lane
+abbrev pub stage : ℕ → ℕ → ℕ → Stage
+stage mode phase length = record { mode = mode; phase = phase; length = length }
+
+-- a stage, a buffer that has its lane in front, and the number to carry out
 pub record Handed : Type 0 where
-  pub mode : ℕ
-  pub phase : ℕ
+  pub stage : Stage
   pub buffer : List ℕ
-  pub len : ℕ
   pub number : ℕ
 
-abbrev pub handed : ℕ → ℕ → List ℕ → ℕ → ℕ → Handed
-handed mode phase buffer len number = record { mode = mode; phase = phase; buffer = buffer; len = len; number = number }
+abbrev pub handed : Stage → List ℕ → ℕ → Handed
+handed s buffer number = record { stage = s; buffer = buffer; number = number }
 
 -- the position handed over, the top being the buffer's first byte
 abbrev pub start : Handed → Position
-start h = at h.mode h.phase (take h.len h.buffer)
+start h = at h.stage.mode h.stage.phase (take h.stage.length h.buffer)
 
 -- each is a wagon
 abbrev pub wagons_fit : List ℕ → Bool
@@ -34,8 +36,8 @@ wagons_fit [] = true
 wagons_fit (k ∷ w) = nat_le k 31 && wagons_fit w
 
 -- the lane lies in its buffer, and the mode and each wagon are within their limits
-abbrev pub is_position : ℕ → List ℕ → ℕ → Bool
-is_position mode buffer len = nat_le len (length buffer) && (nat_le mode 15 && wagons_fit (take len buffer))
+abbrev pub is_position : Stage → List ℕ → Bool
+is_position s buffer = nat_le s.length (length buffer) && (nat_le s.mode 15 && wagons_fit (take s.length buffer))
 
 abbrev pub number_of : Rule → ℕ
 number_of (Order o) = o.number.value
@@ -70,10 +72,10 @@ carried (Notice n) x = at n.to.value (after n x.phase) x.lane
 
 -- what the call answers, and what the buffer then holds
 pub record Told : Type 0 where
-  pub answer : Result Moved MoveRefusal
+  pub answer : Result Stage MoveRefusal
   pub buffer : List ℕ
 
-abbrev pub told : Result Moved MoveRefusal → List ℕ → Told
+abbrev pub told : Result Stage MoveRefusal → List ℕ → Told
 told answer buffer = record { answer = answer; buffer = buffer }
 
 -- a refusal leaves the buffer as it was
@@ -83,7 +85,7 @@ refused buffer e = told (Err e) buffer
 -- the new lane stands in front, and the bytes behind it stay
 abbrev pub moved : List ℕ → Position → Told
 moved buffer y =
-    told (Ok (record { mode = y.mode; phase = y.phase; len = length y.lane })) (y.lane ++ drop (length y.lane) buffer)
+    told (Ok (stage y.mode y.phase (length y.lane))) (y.lane ++ drop (length y.lane) buffer)
 
 -- refuses where the test fails, and goes on where it holds
 abbrev pub unless : Bool → List ℕ → MoveRefusal → Told → Told
@@ -101,7 +103,7 @@ rule_says r x buffer =
 abbrev pub text_says : Result Rule LineRefusal → Handed → Told
 text_says (Err e) h = refused h.buffer (Text e)
 text_says (Ok r) h =
-    unless (is_position h.mode h.buffer h.len) h.buffer NoPosition
+    unless (is_position h.stage h.buffer) h.buffer NoPosition
     (unless (h.number == number_of r) h.buffer (NotAccepted h.number)
     (rule_says r (start h) h.buffer))
 

@@ -1,12 +1,13 @@
 // The move for programs in C or Rust: plain numbers and bytes in, plain numbers out.
 ghost use Rattle.std.specs.Prelude.{◌≡◌, Result as Outcome};
-ghost use Rattle.moves.specs.declared.moving.Moved.{Moved as Reached};
+ghost use Rattle.moves.specs.declared.stage.Stage.{Stage as Reached};
 ghost use Rattle.moves.specs.declared.refusal.MoveRefusal.{MoveRefusal};
-ghost use Rattle.moves.specs.Moving.{handed, move_says};
+ghost use Rattle.moves.specs.Moving.{stage, handed, move_says};
 ghost use Rattle.moves.specs.Meaning.{Right};
 ghost use Rattle.moves.specs.Answers.{in_numbers};
 
 use crate::moving::move_lane;
+use crate::stage::Stage;
 
 // What a move answers. Where `refusal` is 0 the move was made, and mode, phase and length are those after it.
 // Else `refusal` and `place` say why and where, and mode, phase and length are those handed over.
@@ -30,19 +31,24 @@ pub extern "C" fn zenturpa_move(
     len: usize,
     number: u8,
 ) -> MoveAnswer
-    ensures answer { result ≡ in_numbers (handed mode phase buffer.old len number) (move_says line.now (handed mode phase buffer.old len number)).answer }
-    ensures buffer { buffer.new ≡ (move_says line.now (handed mode phase buffer.old len number)).buffer }
+    ensures answer { result ≡ in_numbers (stage mode phase len) (move_says line.now (handed (stage mode phase len) buffer.old number)).answer }
+    ensures buffer { buffer.new ≡ (move_says line.now (handed (stage mode phase len) buffer.old number)).buffer }
     ensures right { (x : Outcome Reached MoveRefusal)
-        × (result ≡ in_numbers (handed mode phase buffer.old len number) x)
-        × Right line.now (handed mode phase buffer.old len number) x buffer.new }
+        × (result ≡ in_numbers (stage mode phase len) x)
+        × Right line.now (handed (stage mode phase len) buffer.old number) x buffer.new }
 {
-    match move_lane(line, mode, phase, buffer, len, number) {
-        Ok(moved) => MoveAnswer {
+    let stage = Stage {
+        mode,
+        phase,
+        length: len,
+    };
+    match move_lane(line, stage, buffer, number) {
+        Ok(reached) => MoveAnswer {
             refusal: 0,
-            mode: u32::from(moved.mode),
+            mode: u32::from(reached.mode),
             place: 0,
-            phase: moved.phase,
-            len: moved.len,
+            phase: reached.phase,
+            len: reached.length,
         },
         Err(refusal) => MoveAnswer {
             refusal: u32::from(refusal.number()),

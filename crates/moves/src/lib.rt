@@ -7,3 +7,4 @@ mod lane;
 pub mod moving;
 pub mod phase;
 pub mod refusal;
+pub mod stage;

@@ -9,22 +9,15 @@ ghost use Rattle.moves.specs.Refusals.{refusal_number};
 use crate::lane::{are_wagons, set_down};
 use crate::phase::{after_notice, allowed, in_force};
 use crate::refusal::MoveRefusal;
+use crate::stage::Stage;
 use text::line::{NoticeLine, OrderLine, Rule};
 use text::reader::read_rule;
 
-// Where a move leads: the mode, the phase, and the length of the lane.
-#[derive(Clone, Copy)]
-pub struct Moved {
-    pub mode: u8,
-    pub phase: u64,
-    pub len: usize,
-}
-
 // Whether the mode and the lane, the first bytes of the buffer, are those of a position.
-fn are_position(mode: u8, buffer: &[u8], len: usize) -> bool
-    ensures { result ≡ is_position mode buffer.now len }
+fn are_position(stage: Stage, buffer: &[u8]) -> bool
+    ensures { result ≡ is_position stage buffer.now }
 {
-    len <= buffer.len() && mode <= 15 && are_wagons(&buffer[0..len])
+    stage.length <= buffer.len() && stage.mode <= 15 && are_wagons(&buffer[..stage.length])
 }
 
 // Whether the mode and the top of the lane are the order's.
@@ -47,52 +40,44 @@ fn takes_notice(notice: &NoticeLine, mode: u8, lane: &[u8]) -> bool
     }
 }
 
-fn carry_out_order(
-    order: &OrderLine,
-    mode: u8,
-    phase: u64,
-    buffer: &mut [u8],
-    len: usize,
-) -> Result<Moved, MoveRefusal>
-    requires { len ≤ length buffer.old }
-    ensures { told result buffer.new ≡ rule_says (rule.Order order.now) (at mode phase (take len buffer.old)) buffer.old }
+fn carry_out_order(order: &OrderLine, stage: Stage, buffer: &mut [u8]) -> Result<Stage, MoveRefusal>
+    requires { stage.length ≤ length buffer.old }
+    ensures { told result buffer.new ≡ rule_says (rule.Order order.now) (at stage.mode stage.phase (take stage.length buffer.old)) buffer.old }
 {
-    if !in_force(phase, order.number) {
+    if !in_force(stage.phase, order.number) {
         return Err(MoveRefusal::NotInForce);
     }
-    if !takes_order(order, mode, &buffer[0..len]) {
+    if !takes_order(order, stage.mode, &buffer[..stage.length]) {
         return Err(MoveRefusal::Forbidden);
     }
-    let Some(len) = set_down(buffer, len, order.wagons) else {
+    let Some(length) = set_down(buffer, stage.length, order.wagons) else {
         return Err(MoveRefusal::NoRoom);
     };
-    Ok(Moved {
+    Ok(Stage {
         mode: order.to.value as u8,
-        phase,
-        len,
+        phase: stage.phase,
+        length,
     })
 }
 
 fn carry_out_notice(
     notice: &NoticeLine,
-    mode: u8,
-    phase: u64,
+    stage: Stage,
     buffer: &mut [u8],
-    len: usize,
-) -> Result<Moved, MoveRefusal>
-    requires { len ≤ length buffer.old }
-    ensures { told result buffer.new ≡ rule_says (rule.Notice notice.now) (at mode phase (take len buffer.old)) buffer.old }
+) -> Result<Stage, MoveRefusal>
+    requires { stage.length ≤ length buffer.old }
+    ensures { told result buffer.new ≡ rule_says (rule.Notice notice.now) (at stage.mode stage.phase (take stage.length buffer.old)) buffer.old }
 {
-    if !allowed(notice, phase) {
+    if !allowed(notice, stage.phase) {
         return Err(MoveRefusal::NotInForce);
     }
-    if !takes_notice(notice, mode, &buffer[0..len]) {
+    if !takes_notice(notice, stage.mode, &buffer[..stage.length]) {
         return Err(MoveRefusal::Forbidden);
     }
-    Ok(Moved {
+    Ok(Stage {
         mode: notice.to.value as u8,
-        phase: after_notice(phase, notice),
-        len,
+        phase: after_notice(stage.phase, notice),
+        length: stage.length,
     })
 }
 
@@ -106,44 +91,35 @@ fn rule_number(rule: &Rule) -> u16
 }
 
 // Carries out the rule under its number.
-fn carry_out(
-    rule: &Rule,
-    mode: u8,
-    phase: u64,
-    buffer: &mut [u8],
-    len: usize,
-    number: u8,
-) -> Result<Moved, MoveRefusal>
-    ensures { told result buffer.new ≡ text_says (Ok rule.now) (handed mode phase buffer.old len number) }
+fn carry_out(rule: &Rule, stage: Stage, buffer: &mut [u8], number: u8) -> Result<Stage, MoveRefusal>
+    ensures { told result buffer.new ≡ text_says (Ok rule.now) (handed stage buffer.old number) }
 {
-    if !are_position(mode, buffer, len) {
+    if !are_position(stage, buffer) {
         return Err(MoveRefusal::NoPosition);
     }
     if u16::from(number) != rule_number(rule) {
         return Err(MoveRefusal::NotAccepted(number));
     }
     match rule {
-        Rule::Order(order) => carry_out_order(order, mode, phase, buffer, len),
-        Rule::Notice(notice) => carry_out_notice(notice, mode, phase, buffer, len),
+        Rule::Order(order) => carry_out_order(order, stage, buffer),
+        Rule::Notice(notice) => carry_out_notice(notice, stage, buffer),
     }
 }
 
-// Makes the move that the line allows under this number, from the mode, the phase and the lane in the first `len` bytes of the
+// Makes the move that the line allows under this number, from the stage's mode, phase and lane, which is the first bytes of the
 // buffer. The first byte is the top. A refusal leaves the buffer as it was, and a move the bytes behind the new lane.
 pub fn move_lane(
     line: &[u8],
-    mode: u8,
-    phase: u64,
+    stage: Stage,
     buffer: &mut [u8],
-    len: usize,
     number: u8,
-) -> Result<Moved, MoveRefusal>
-    ensures value { told result buffer.new ≡ move_says line.now (handed mode phase buffer.old len number) }
-    ensures right { Right line.now (handed mode phase buffer.old len number) result buffer.new }
+) -> Result<Stage, MoveRefusal>
+    ensures value { told result buffer.new ≡ move_says line.now (handed stage buffer.old number) }
+    ensures right { Right line.now (handed stage buffer.old number) result buffer.new }
     ensures rises { (e : MoveRefusal) → result ≡ Err e → refusal_number e ≢ 5 }
 {
     match read_rule(line) {
-        Ok(rule) => carry_out(&rule, mode, phase, buffer, len, number),
+        Ok(rule) => carry_out(&rule, stage, buffer, number),
         Err(refusal) => Err(MoveRefusal::Text(refusal)),
     }
 }

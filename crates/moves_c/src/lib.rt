@@ -3,9 +3,9 @@
 #![tactic(auto)]
 
 ghost use Rattle.std.specs.Prelude.{◌≡◌, Result as Outcome};
-ghost use Rattle.moves.specs.declared.moving.Moved.{Moved as Reached};
+ghost use Rattle.moves.specs.declared.stage.Stage.{Stage as Reached};
 ghost use Rattle.moves.specs.declared.refusal.MoveRefusal.{MoveRefusal};
-ghost use Rattle.moves.specs.Moving.{handed, move_says};
+ghost use Rattle.moves.specs.Moving.{stage, handed, move_says};
 ghost use Rattle.moves.specs.Meaning.{Right};
 ghost use Rattle.moves.specs.Answers.{in_numbers};
 
@@ -21,11 +21,11 @@ pub extern "C" fn zenturpa_move(
     len: usize,
     number: u8,
 ) -> MoveAnswer
-    ensures answer { result ≡ in_numbers (handed mode phase buffer.old len number) (move_says line.now (handed mode phase buffer.old len number)).answer }
-    ensures buffer { buffer.new ≡ (move_says line.now (handed mode phase buffer.old len number)).buffer }
+    ensures answer { result ≡ in_numbers (stage mode phase len) (move_says line.now (handed (stage mode phase len) buffer.old number)).answer }
+    ensures buffer { buffer.new ≡ (move_says line.now (handed (stage mode phase len) buffer.old number)).buffer }
     ensures right { (x : Outcome Reached MoveRefusal)
-        × (result ≡ in_numbers (handed mode phase buffer.old len number) x)
-        × Right line.now (handed mode phase buffer.old len number) x buffer.new }
+        × (result ≡ in_numbers (stage mode phase len) x)
+        × Right line.now (handed (stage mode phase len) buffer.old number) x buffer.new }
 {
     answered(line, mode, phase, buffer, len, number)
 }

@@ -7,7 +7,7 @@ use Rattle.moves.proofs.moving.move_lane.Goals as goal
 pub returns-in-Ok : goal.returns-in-Ok
 returns-in-Ok c =
     let s = c.args.line.now in
-    let h = handed c.args.mode c.args.phase c.args.buffer.now c.args.len c.args.number in
+    let h = handed c.args.stage c.args.buffer.now c.args.number in
     let x = Ok c.in-Ok.rule in
     let read = c.in-Ok.ensures in
     let e = c.carry_out.ensures in
@@ -20,7 +20,7 @@ returns-in-Ok c =
 pub returns-in-Err : goal.returns-in-Err
 returns-in-Err c =
     let s = c.args.line.now in
-    let h = handed c.args.mode c.args.phase c.args.buffer.now c.args.len c.args.number in
+    let h = handed c.args.stage c.args.buffer.now c.args.number in
     let x = Err c.in-Err.refusal in
     let read = c.in-Err.ensures in
     record {
