@@ -5,3 +5,4 @@ pub mod Reading
 pub mod Meaning
 pub mod Steps
 pub mod Writing
+pub mod Refusals

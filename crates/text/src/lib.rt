@@ -4,6 +4,7 @@
 
 pub mod line;
 mod line_reader;
+pub mod phase;
 pub mod reader;
 pub mod refusal;
 pub mod writer;

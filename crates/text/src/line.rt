@@ -80,3 +80,18 @@ pub enum Line {
     // an empty lane is watched in this mode
     Bare(Mode),
 }
+
+// An order or a notice is a line.
+impl From<Rule> for Line {
+    ghost use Rattle.std.specs.Prelude.{◌≡◌};
+    ghost use Rattle.text.specs.Reading.{rule_line};
+
+    ghost from_gives = { λ rule line. line ≡ rule_line rule };
+
+    fn from(rule: Rule) -> Line {
+        match rule {
+            Rule::Order(order) => Line::Order(order),
+            Rule::Notice(notice) => Line::Notice(notice),
+        }
+    }
+}

@@ -9,8 +9,9 @@ ghost use Rattle.text.specs.Reading.{Next, Outcome, noted, read, read_as, as_lin
 ghost use Rattle.text.specs.Meaning.{Says, SaysAs};
 ghost use Rattle.text.specs.Steps.{DigitsOff, NumberOff, scanned, word_then, number_then, goes_on, numbers_then, another_then, after_another, Behind, agree, furthest, Lacks};
 
-use crate::line::{Line, LinkLine, NoticeLine, Number, OrderLine, Rule, Wagons, WatchLine};
+use crate::line::{Line, LinkLine, NoticeLine, OrderLine, Rule, Wagons, WatchLine};
 use crate::line_reader::LineReader;
+use crate::phase::bit;
 use crate::refusal::LineRefusal;
 use grade::toll::Toll;
 use grade::upto::UpTo;
@@ -309,13 +310,6 @@ impl<'a> LineReader<'a> {
 
 // A line of at most 512 bytes has fewer numbers than this.
 const MANY: usize = 512;
-
-// The phase of one number.
-fn bit(number: Number) -> u64
-    ensures { result ≡ 2 ^ number.value }
-{
-    1 << number.value
-}
 
 // The number where it is at most MAX, else 0.
 fn within<const MAX: u16>(n: u32) -> UpTo<MAX>
