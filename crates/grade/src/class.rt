@@ -8,7 +8,7 @@ use crate::order::TotalOrder;
 use crate::toll::Toll;
 use crate::upto::UpTo;
 
-#[derive(Clone, Copy)]
+#[derive(Clone, Copy, Debug, PartialEq, Eq, PartialOrd, Ord)]
 pub struct Class {
     pub class: UpTo<9>,
 }
@@ -23,7 +23,7 @@ impl TotalOrder for Class {
     ghost antisymmetric = { λ a b p q. same_class a b (Prim.search rules) };
 
     fn no_worse(&self, other: &Class) -> bool {
-        self.class.value <= other.class.value
+        self <= other
     }
 }
 

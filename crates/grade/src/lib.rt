@@ -2,7 +2,6 @@
 
 #![tactic(auto)]
 
-mod bounds;
 pub mod class;
 pub mod grade;
 pub mod minutes;

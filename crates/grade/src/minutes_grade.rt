@@ -18,7 +18,7 @@ impl TotalOrder for Minutes {
     ghost antisymmetric = { λ a b p q. same_minutes a b (Prim.search rules) };
 
     fn no_worse(&self, other: &Minutes) -> bool {
-        self.value <= other.value
+        self <= other
     }
 }
 

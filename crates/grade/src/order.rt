@@ -29,6 +29,6 @@ impl TotalOrder for u32 {
     ghost antisymmetric = { Prim.search rules };
 
     fn no_worse(&self, other: &u32) -> bool {
-        *self <= *other
+        self <= other
     }
 }

@@ -6,7 +6,7 @@ use crate::grade::Grade;
 use crate::order::TotalOrder;
 use crate::toll::Toll;
 
-#[derive(Clone, Copy)]
+#[derive(Clone, Copy, Debug, PartialEq, Eq, PartialOrd, Ord)]
 pub struct Plain;
 
 impl TotalOrder for Plain {
