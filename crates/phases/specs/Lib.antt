@@ -4,3 +4,4 @@ pub mod Refusals
 pub mod Growth
 pub mod Nodes
 pub mod Held
+pub mod Positions

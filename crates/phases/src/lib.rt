@@ -5,6 +5,7 @@
 mod missing;
 mod nodes;
 pub mod opening;
+pub mod position;
 pub mod refusal;
 mod sets;
 pub mod table;

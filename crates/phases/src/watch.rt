@@ -1,25 +1,26 @@
 // Whether the watch holds a position.
 ghost use Rattle.std.specs.Prelude.{Decides};
 ghost use Rattle.model.specs.Phases.{Opened};
-ghost use Rattle.model.specs.Moves.{at};
 ghost use Rattle.model.specs.Watch.{Watched};
 ghost use Rattle.book.specs.Lines.{lines};
 ghost use Rattle.phases.specs.Table.{Holds, OpenedBy};
 ghost use Rattle.phases.specs.Held.{Fits, Taken, Told};
+ghost use Rattle.phases.specs.Positions.{asked};
 
 use crate::nodes::takes;
+use crate::position::Position;
 use crate::refusal::PositionRefusal;
 use crate::table::Phases;
 use book::tables::Book;
 
 // Whether the mode and each wagon are within their limits, and the lane is not too long.
-pub fn fits(mode: u8, lane: &[u8]) -> bool
-    ensures { Decides result (Fits mode lane.now) }
+pub fn fits(position: &Position) -> bool
+    ensures { Decides result (Fits position.now.mode position.now.lane.now) }
 {
-    if mode > 15 || lane.len() > 32 {
+    if position.mode > 15 || position.lane.len() > 32 {
         return false;
     }
-    for wagon in lane {
+    for wagon in position.lane {
         if *wagon > 31 {
             return false;
         }
@@ -29,21 +30,15 @@ pub fn fits(mode: u8, lane: &[u8]) -> bool
 
 // Whether the watch holds the position, by the book and its opened phases. With any other phases, those count as opened that
 // are in the table.
-pub fn held(
-    book: &Book,
-    phases: &Phases,
-    mode: u8,
-    phase: u64,
-    lane: &[u8],
-) -> Result<bool, PositionRefusal>
-    ensures table { Told (Holds phases.now) (Taken (lines book.now)) (at mode phase lane.now) result }
-    ensures opened { OpenedBy (lines book.now) phases.now → Told (Opened (lines book.now)) (Watched (lines book.now)) (at mode phase lane.now) result }
+pub fn held(book: &Book, phases: &Phases, position: &Position) -> Result<bool, PositionRefusal>
+    ensures table { Told (Holds phases.now) (Taken (lines book.now)) (asked position.now) result }
+    ensures opened { OpenedBy (lines book.now) phases.now → Told (Opened (lines book.now)) (Watched (lines book.now)) (asked position.now) result }
 {
-    if !fits(mode, lane) {
+    if !fits(position) {
         return Err(PositionRefusal::TooLarge);
     }
-    if phases.phase_index(phase).is_none() {
+    if phases.phase_index(position.phase).is_none() {
         return Err(PositionRefusal::NotOpened);
     }
-    Ok(takes(book, mode, lane))
+    Ok(takes(book, position.mode, position.lane))
 }

@@ -8,9 +8,9 @@ use Rattle.phases.proofs.watch.held.Goals as goal
 pub returns : goal.returns
 returns c =
     let ls = lines c.args.book.now in
-    let mode = c.args.mode in
-    let F = c.args.phase in
-    let lane = c.args.lane.now in
+    let mode = c.args.position.now.mode in
+    let F = c.args.position.now.phase in
+    let lane = c.args.position.now.lane.now in
     let fit = c.if-not-fits.ensures.0 refl in
     let there = index_holds c.args.phases.now F c.phase_index.result c.if-is_none.ensures c.phase_index.ensures in
     record {
