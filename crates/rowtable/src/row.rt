@@ -1,5 +1,5 @@
 // A state of a row. Any numbers can stand in it: a table may be anybody's.
-#[derive(Clone, Copy)]
+#[derive(Clone, Copy, PartialEq, Eq)]
 pub enum TableState {
     // a node of the watch
     Node(u8),
@@ -8,7 +8,7 @@ pub enum TableState {
 }
 
 // Why a row is there. Rows that it rests on are named by their places in the table.
-#[derive(Clone, Copy)]
+#[derive(Clone, Copy, PartialEq, Eq)]
 pub enum Reason {
     // a watch line or a link line
     Line,
