@@ -1,5 +1,5 @@
 -- The lines of a book: of each kind in order, all together sorted; how a line is added. Assumes nothing.
-use Rattle.std.proofs.Common.{◌≡◌, ℕ, ◌^◌, ◌<◌, ◌≤◌, Bool, true, false, ltb, List, [], ◌∷◌, ◌++◌, map, length, take, sym, refl, ◌∙◌, inl, inr, arith}
+use Rattle.std.proofs.Common.{◌≡◌, ℕ, ◌^◌, ◌<◌, ◌≤◌, Bool, true, false, ltb, List, [], ◌∷◌, ◌++◌, map, length, take, Some, None, Option, sym, refl, ◌∙◌, inl, inr, arith}
 use native.Mathlib.Bridge.{le_prop}
 use base.Stored.{Coded-set, coded_ℕ}
 use Rattle.std.specs.List.{flat_map, AllByRecursion}
@@ -9,8 +9,8 @@ use Rattle.text.specs.declared.line.Line.{Line}
 use Rattle.text.specs.declared.line.Line.TheVariants as line
 use Rattle.text.specs.Numerals.{kept}
 use Rattle.text.specs.Meaning.{Within}
-use Rattle.book.specs.declared.rule.Rule.{Rule}
-use Rattle.book.specs.declared.rule.Rule.TheVariants.{Free, Order, Notice}
+use Rattle.text.specs.declared.line.Rule.{Rule}
+use Rattle.text.specs.declared.line.Rule.TheVariants.{Order, Notice}
 use Rattle.book.specs.declared.tables.Book.{Book}
 use Rattle.book.specs.Order.{Ascending, among, put}
 use Rattle.book.specs.Ranks.{Kind, rules, opens, watches, links, ends, bares, kind, start, rank, Sorted, phase_rank, watch_rank, link_rank}
@@ -23,15 +23,15 @@ use Rattle.book.proofs.Seats.{Seat, Seated, along_told, along_weaker, along_belo
 
 -- ---- what stands at a number
 
-at_number_prop : (n : ℕ) (r : Rule) → IsProp (AtNumber n r)
-at_number_prop n Free p q = refl
-at_number_prop n (Order o) p q = Coded-set coded_ℕ o.number.value n p q
-at_number_prop n (Notice o) p q = Coded-set coded_ℕ o.number.value n p q
+at_number_prop : (n : ℕ) (r : Option Rule) → IsProp (AtNumber n r)
+at_number_prop n None p q = refl
+at_number_prop n (Some (Order o)) p q = Coded-set coded_ℕ o.number.value n p q
+at_number_prop n (Some (Notice o)) p q = Coded-set coded_ℕ o.number.value n p q
 
-rule_seat : (n : ℕ) (r : Rule) → AtNumber n r → Seat rules n (rule_line n r)
-rule_seat n Free h = inl refl
-rule_seat n (Order o) h = inr (line.Order o, (refl, ((refl, tt), omega arith)))
-rule_seat n (Notice o) h = inr (line.Notice o, (refl, ((refl, tt), omega arith)))
+rule_seat : (n : ℕ) (r : Option Rule) → AtNumber n r → Seat rules n (rule_line n r)
+rule_seat n None h = inl refl
+rule_seat n (Some (Order o)) h = inr (line.Order o, (refl, ((refl, tt), omega arith)))
+rule_seat n (Some (Notice o)) h = inr (line.Notice o, (refl, ((refl, tt), omega arith)))
 
 pub kept_is : (max n : ℕ) → n ≤ max → (kept max n).value ≡ n
 kept_is max n le = cond-false (ltb max n) 0 n (le-ltb max n le)

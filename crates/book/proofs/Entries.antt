@@ -1,5 +1,5 @@
 -- A line more in one of a book's tables: the table stays in order, and the line is put among the book's lines. Assumes nothing.
-use Rattle.std.proofs.Common.{◌≡◌, ℕ, ◌+◌, ◌-◌, ◌<◌, Bool, true, false, cond, leb, List, [], ◌∷◌, map, length, get_or, take, drop, set, replicate, sym, refl, ap, ◌∙◌, subst, arith}
+use Rattle.std.proofs.Common.{◌≡◌, ℕ, ◌+◌, ◌-◌, ◌<◌, Bool, true, false, cond, leb, List, [], ◌∷◌, map, length, get_or, take, drop, set, replicate, None, Option, sym, refl, ap, ◌∙◌, subst, arith}
 use Rattle.std.proofs.lemmas.List.{length-map, length-take-le, take-append-drop, drop-drop, drop-replicate}
 use Rattle.std.proofs.lemmas.Bool.{leb-false, true≢false}
 use Rattle.std.specs.List.{AllByRecursion}
@@ -12,8 +12,7 @@ use Rattle.text.specs.declared.line.WatchLine.{WatchLine}
 use Rattle.text.specs.declared.line.LinkLine.{LinkLine}
 use Rattle.text.specs.Numerals.{kept}
 use Rattle.text.specs.Meaning.{Within}
-use Rattle.book.specs.declared.rule.Rule.{Rule}
-use Rattle.book.specs.declared.rule.Rule.TheVariants.{Free}
+use Rattle.text.specs.declared.line.Rule.{Rule}
 use Rattle.book.specs.declared.tables.Book.{Book}
 use Rattle.book.specs.Order.{Ascending, Tidy, among, put}
 use Rattle.book.specs.Ranks.{Kind, rules, opens, watches, links, ends, bares, kind, start, rank, phase_rank, watch_rank, link_rank}
@@ -102,8 +101,8 @@ seat_put at k b xs d own seated l i of w is lt new y one =
     ∙ ap (put rank l) (sym own)
 
 pub rule_put : (b : Book) (l : Line) (i : ℕ) → kind l ≡ rules → Within l → rank l ≡ i → i < 64 → clashes (lines b) l ≡ false
-    → (r : Rule) → rule_line i r ≡ l ∷ [] → by_number rule_line 0 (set b.rules i r) ≡ put rank l (lines_of b rules)
-rule_put b l i of w is lt new r one = let long = b.numbered.0 in seat_put rule_line rules b b.rules Free refl (rules_seated b) l i of w (omega arith) (omega arith) new r one
+    → (r : Option Rule) → rule_line i r ≡ l ∷ [] → by_number rule_line 0 (set b.rules i r) ≡ put rank l (lines_of b rules)
+rule_put b l i of w is lt new r one = let long = b.numbered.0 in seat_put rule_line rules b b.rules None refl (rules_seated b) l i of w (omega arith) (omega arith) new r one
 
 pub end_put : (b : Book) (t : UpTo 63) (i : ℕ) → i ≡ t.value → clashes (lines b) (line.End t) ≡ false → by_number end_line 0 (set b.ends i true) ≡ put rank (line.End t) (lines_of b ends)
 end_put b t i is new =
@@ -119,8 +118,8 @@ bare_put b p i is new =
     seat_put bare_line bares b b.bares false refl (bares_seated b) (line.Bare p) i refl tt (omega arith) (omega arith) new true
     (ap (λ u. line.Bare u ∷ []) (same_upto 15 (kept 15 i) p (kept_is 15 i (omega arith) ∙ is)))
 
-pub rule_clash : (b : Book) (l : Line) (i : ℕ) → kind l ≡ rules → Within l → rank l ≡ i → i < 64 → clashes (lines b) l ≡ filled (rule_line i (get_or b.rules i Free))
-rule_clash b l i of w is lt = let long = b.numbered.0 in seat_clash rule_line rules b b.rules Free refl (rules_seated b) l i of w (omega arith) (omega arith)
+pub rule_clash : (b : Book) (l : Line) (i : ℕ) → kind l ≡ rules → Within l → rank l ≡ i → i < 64 → clashes (lines b) l ≡ filled (rule_line i (get_or b.rules i None))
+rule_clash b l i of w is lt = let long = b.numbered.0 in seat_clash rule_line rules b b.rules None refl (rules_seated b) l i of w (omega arith) (omega arith)
 
 flag : (l : Line) (t : Bool) → filled (cond t (l ∷ []) []) ≡ t
 flag l true = refl

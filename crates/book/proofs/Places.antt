@@ -1,5 +1,5 @@
 -- Going through the places of a book's tables gives its lines. Assumes nothing.
-use Rattle.std.proofs.Common.{◌≡◌, ℕ, zero, suc, ◌+◌, ◌-◌, ◌<◌, ◌≤◌, true, false, ltb, List, [], ◌∷◌, ◌++◌, map, length, get_or, take, sym, refl, ap, ◌∙◌, append_assoc, append-nil, add-zero, add-suc, add-one, arith}
+use Rattle.std.proofs.Common.{◌≡◌, ℕ, zero, suc, ◌+◌, ◌-◌, ◌<◌, ◌≤◌, true, false, ltb, List, [], ◌∷◌, ◌++◌, map, length, get_or, take, None, sym, refl, ap, ◌∙◌, append_assoc, append-nil, add-zero, add-suc, add-one, arith}
 use Rattle.std.specs.List.{flat_map}
 use Rattle.std.proofs.lemmas.List.{take_more, map_push}
 use Rattle.std.proofs.lemmas.Bool.{cond-true, cond-false, lt-ltb, le-ltb}
@@ -8,7 +8,6 @@ use Rattle.grade.specs.ValuesLemmas.{same_upto}
 use Rattle.text.specs.declared.line.Line.{Line}
 use Rattle.text.specs.declared.line.Line.TheVariants as line
 use Rattle.text.specs.Numerals.{kept}
-use Rattle.book.specs.declared.rule.Rule.TheVariants.{Free}
 use Rattle.book.specs.declared.tables.Book.{Book}
 use Rattle.book.specs.Ranks.{Kind, kinds, rules, opens, watches, links, ends, bares}
 use Rattle.book.specs.Tables.{blank_watch, blank_link, rule_line, end_line, bare_line, by_number}
@@ -85,7 +84,7 @@ seats_size at d xs size long =
     ∙ seats_all at d 0 xs
 
 table : (b : Book) (k : Kind) → below (line_in b k) (places k) ≡ lines_of b k
-table b rules = seats_size rule_line Free b.rules 64 b.numbered.0
+table b rules = seats_size rule_line None b.rules 64 b.numbered.0
 table b opens = rows_all line.Open 0 b.opens b.opening 8 b.opened.0 b.opened.1
 table b watches = rows_all line.Watch blank_watch b.watches b.watching 128 b.watched.0 b.watched.1
 table b links = rows_all line.Link blank_link b.links b.linking 128 b.linked.0 b.linked.1

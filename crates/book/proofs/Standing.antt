@@ -1,5 +1,5 @@
 -- Which lines stand in a book, read off its tables: a line stands just where its row, its number or its mark is. Assumes nothing.
-use Rattle.std.proofs.Common.{◌≡◌, ℕ, zero, suc, ◌+◌, ◌<◌, ◌≤◌, Bool, true, false, cond, ◌⊎◌, ◌↔◌, List, [], ◌∷◌, ◌++◌, map, length, get_or, take, Some, sym, refl, ap, ◌∙◌, subst, inl, inr, ⊎_elim, arith}
+use Rattle.std.proofs.Common.{◌≡◌, ℕ, zero, suc, ◌+◌, ◌<◌, ◌≤◌, Bool, true, false, cond, ◌⊎◌, ◌↔◌, List, [], ◌∷◌, ◌++◌, map, length, get_or, take, Some, None, Option, sym, refl, ap, ◌∙◌, subst, inl, inr, ⊎_elim, arith}
 use Rattle.std.specs.List.{ContainsAt as Has, flat_map}
 use Rattle.std.proofs.ByRecursion.{all-has, has_append_left, has_append_right}
 use Rattle.grade.specs.declared.upto.UpTo.{UpTo}
@@ -12,8 +12,8 @@ use Rattle.text.specs.declared.line.WatchLine.{WatchLine}
 use Rattle.text.specs.declared.line.LinkLine.{LinkLine}
 use Rattle.text.specs.Numerals.{kept}
 use Rattle.text.specs.Meaning.{Within}
-use Rattle.book.specs.declared.rule.Rule.{Rule}
-use Rattle.book.specs.declared.rule.Rule.TheVariants.{Free, Order, Notice}
+use Rattle.text.specs.declared.line.Rule.{Rule}
+use Rattle.text.specs.declared.line.Rule.TheVariants.{Order, Notice}
 use Rattle.book.specs.declared.tables.Book.{Book}
 use Rattle.book.specs.Ranks.{rules, kind, start, stop, rank}
 use Rattle.book.specs.Tables.{Along, AtNumber, rule_line, by_number}
@@ -111,14 +111,14 @@ link_stands b k = (
 -- ---- numbers and marks
 
 -- the rule that a line makes
-line_rule : Line → Rule
-line_rule (line.Order o) = Order o
-line_rule (line.Notice n) = Notice n
-line_rule (line.Open F) = Free
-line_rule (line.Watch w) = Free
-line_rule (line.Link k) = Free
-line_rule (line.End t) = Free
-line_rule (line.Bare p) = Free
+line_rule : Line → Option Rule
+line_rule (line.Order o) = Some (Order o)
+line_rule (line.Notice n) = Some (Notice n)
+line_rule (line.Open F) = None
+line_rule (line.Watch w) = None
+line_rule (line.Link k) = None
+line_rule (line.End t) = None
+line_rule (line.Bare p) = None
 
 along_getD : {X : Type 0} (P : ℕ → X → Type 0) (n : ℕ) (xs : List X) (i j : ℕ) (d : X) → n + i ≡ j → i < length xs → Along P n xs → P j (get_or xs i d)
 along_getD P n [] i j d e lt h = absurd (omega arith)
@@ -128,27 +128,27 @@ along_getD P n (x ∷ xs) (suc i) j d e lt h = along_getD P (n + 1) xs i j d (om
 pub only : {X : Type 0} (x y : X) → Has (x ∷ []) y → x ≡ y
 only x y h = ⊎_elim (λ e. e) (λ at. absurd (has_none y at)) (has_cases x [] y h)
 
-seated : (n : ℕ) (r : Rule) (l : Line) → AtNumber n r → Has (rule_line n r) l → (r ≡ line_rule l) × (rank l ≡ n)
+seated : (n : ℕ) (r : Option Rule) (l : Line) → AtNumber n r → Has (rule_line n r) l → (r ≡ line_rule l) × (rank l ≡ n)
 unfolding line_rule
-seated n Free l is h = absurd (has_none l h)
-seated n (Order o) l is h = let e = only (line.Order o) l h in (ap line_rule e, ap rank (sym e) ∙ is)
-seated n (Notice m) l is h = let e = only (line.Notice m) l h in (ap line_rule e, ap rank (sym e) ∙ is)
+seated n None l is h = absurd (has_none l h)
+seated n (Some (Order o)) l is h = let e = only (line.Order o) l h in (ap line_rule e, ap rank (sym e) ∙ is)
+seated n (Some (Notice m)) l is h = let e = only (line.Notice m) l h in (ap line_rule e, ap rank (sym e) ∙ is)
 
 module _ (b : Book) where
-  rule_there : (l : Line) → Has (lines_of b rules) l → get_or b.rules (rank l) Free ≡ line_rule l
+  rule_there : (l : Line) → Has (lines_of b rules) l → get_or b.rules (rank l) None ≡ line_rule l
   rule_there l h =
-      let (i, lt, at) = has_by_number rule_line 0 b.rules Free l h in
+      let (i, lt, at) = has_by_number rule_line 0 b.rules None l h in
       let same : 0 + i ≡ i = omega arith in
-      let at_i = subst (λ j. Has (rule_line j (get_or b.rules i Free)) l) same at in
-      let s = seated i (get_or b.rules i Free) l (along_getD AtNumber 0 b.rules i i Free same lt (at_numbers b)) at_i in
-      subst (λ j. get_or b.rules j Free ≡ line_rule l) (sym s.1) s.0
+      let at_i = subst (λ j. Has (rule_line j (get_or b.rules i None)) l) same at in
+      let s = seated i (get_or b.rules i None) l (along_getD AtNumber 0 b.rules i i None same lt (at_numbers b)) at_i in
+      subst (λ j. get_or b.rules j None ≡ line_rule l) (sym s.1) s.0
 
-  there_rule : (l : Line) → rank l < 64 → Has (rule_line (rank l) (line_rule l)) l → get_or b.rules (rank l) Free ≡ line_rule l → Has (lines_of b rules) l
+  there_rule : (l : Line) → rank l < 64 → Has (rule_line (rank l) (line_rule l)) l → get_or b.rules (rank l) None ≡ line_rule l → Has (lines_of b rules) l
   there_rule l lt here e =
       let long = b.numbered.0 in
-      by_number_has rule_line 0 b.rules (rank l) (rank l) Free l (omega arith) (omega arith) (subst (λ r. Has (rule_line (rank l) r) l) (sym e) here)
+      by_number_has rule_line 0 b.rules (rank l) (rank l) None l (omega arith) (omega arith) (subst (λ r. Has (rule_line (rank l) r) l) (sym e) here)
 
-  pub order_stands : (o : OrderLine) → Has (lines b) (line.Order o) ↔ (get_or b.rules o.number.value Free ≡ Order o)
+  pub order_stands : (o : OrderLine) → Has (lines b) (line.Order o) ↔ (get_or b.rules o.number.value None ≡ Some (Order o))
   unfolding line_rule
   order_stands o =
       let fits = o.number.fits in (
@@ -156,7 +156,7 @@ module _ (b : Book) where
         λ e. kind_stands b (line.Order o) (there_rule (line.Order o) (omega arith) (has_here (line.Order o) []) e),
       )
 
-  pub notice_stands : (n : NoticeLine) → Has (lines b) (line.Notice n) ↔ (get_or b.rules n.number.value Free ≡ Notice n)
+  pub notice_stands : (n : NoticeLine) → Has (lines b) (line.Notice n) ↔ (get_or b.rules n.number.value None ≡ Some (Notice n))
   unfolding line_rule
   notice_stands n =
       let fits = n.number.fits in (
@@ -164,21 +164,21 @@ module _ (b : Book) where
         λ e. kind_stands b (line.Notice n) (there_rule (line.Notice n) (omega arith) (has_here (line.Notice n) []) e),
       )
 
-  placed : (k : ℕ) (r : Rule) → k < 64 → get_or b.rules k Free ≡ r → AtNumber k r
-  placed k r lt e = let long = b.numbered.0 in subst (AtNumber k) e (along_getD AtNumber 0 b.rules k k Free (omega arith) (omega arith) (at_numbers b))
+  placed : (k : ℕ) (r : Option Rule) → k < 64 → get_or b.rules k None ≡ r → AtNumber k r
+  placed k r lt e = let long = b.numbered.0 in subst (AtNumber k) e (along_getD AtNumber 0 b.rules k k None (omega arith) (omega arith) (at_numbers b))
 
   -- what is found at a place stands, and has the place's number
-  pub order_at : (k : ℕ) (o : OrderLine) → k < 64 → get_or b.rules k Free ≡ Order o → Has (lines b) (line.Order o) × (o.number.value ≡ k)
-  order_at k o lt e = let is = placed k (Order o) lt e in ((order_stands o).1 (subst (λ m. get_or b.rules m Free ≡ Order o) (sym is) e), is)
+  pub order_at : (k : ℕ) (o : OrderLine) → k < 64 → get_or b.rules k None ≡ Some (Order o) → Has (lines b) (line.Order o) × (o.number.value ≡ k)
+  order_at k o lt e = let is = placed k (Some (Order o)) lt e in ((order_stands o).1 (subst (λ m. get_or b.rules m None ≡ Some (Order o)) (sym is) e), is)
 
-  pub notice_at : (k : ℕ) (n : NoticeLine) → k < 64 → get_or b.rules k Free ≡ Notice n → Has (lines b) (line.Notice n) × (n.number.value ≡ k)
-  notice_at k n lt e = let is = placed k (Notice n) lt e in ((notice_stands n).1 (subst (λ m. get_or b.rules m Free ≡ Notice n) (sym is) e), is)
+  pub notice_at : (k : ℕ) (n : NoticeLine) → k < 64 → get_or b.rules k None ≡ Some (Notice n) → Has (lines b) (line.Notice n) × (n.number.value ≡ k)
+  notice_at k n lt e = let is = placed k (Some (Notice n)) lt e in ((notice_stands n).1 (subst (λ m. get_or b.rules m None ≡ Some (Notice n)) (sym is) e), is)
 
   -- what stands under a number, and that it is the line's own
-  numbered_rule : (l : Line) (n : ℕ) → number l ≡ Some n → Has (lines b) l → (get_or b.rules n Free ≡ line_rule l) × (rule_line n (line_rule l) ≡ l ∷ [])
+  numbered_rule : (l : Line) (n : ℕ) → number l ≡ Some n → Has (lines b) l → (get_or b.rules n None ≡ line_rule l) × (rule_line n (line_rule l) ≡ l ∷ [])
   unfolding line_rule
-  numbered_rule (line.Order o) n e h = let same : o.number.value ≡ n = cc in (subst (λ m. get_or b.rules m Free ≡ Order o) same ((order_stands o).0 h), refl)
-  numbered_rule (line.Notice m) n e h = let same : m.number.value ≡ n = cc in (subst (λ k. get_or b.rules k Free ≡ Notice m) same ((notice_stands m).0 h), refl)
+  numbered_rule (line.Order o) n e h = let same : o.number.value ≡ n = cc in (subst (λ m. get_or b.rules m None ≡ Some (Order o)) same ((order_stands o).0 h), refl)
+  numbered_rule (line.Notice m) n e h = let same : m.number.value ≡ n = cc in (subst (λ k. get_or b.rules k None ≡ Some (Notice m)) same ((notice_stands m).0 h), refl)
   numbered_rule (line.Open F) n e h = let z : ◌≡◌ {A = ℕ} 0 1 = cc in absurd (omega arith)
   numbered_rule (line.Watch w) n e h = let z : ◌≡◌ {A = ℕ} 0 1 = cc in absurd (omega arith)
   numbered_rule (line.Link k) n e h = let z : ◌≡◌ {A = ℕ} 0 1 = cc in absurd (omega arith)
@@ -186,7 +186,7 @@ module _ (b : Book) where
   numbered_rule (line.Bare p) n e h = let z : ◌≡◌ {A = ℕ} 0 1 = cc in absurd (omega arith)
 
   -- under a number that is free no line stands
-  pub free_number : (n : ℕ) → get_or b.rules n Free ≡ Free → (l : Line) → number l ≡ Some n → Has (lines b) l → ⊥
+  pub free_number : (n : ℕ) → get_or b.rules n None ≡ None → (l : Line) → number l ≡ Some n → Has (lines b) l → ⊥
   free_number n free l is h = let a = numbered_rule l n is h in no_cons l [] (sym a.1 ∙ ap (rule_line n) (sym a.0 ∙ free))
 
   -- a number stands once

@@ -1,5 +1,5 @@
 -- A book is told by its lines, and so by its text. Assumes nothing.
-use Rattle.std.proofs.Common.{◌≡◌, ℕ, ◌-◌, ◌<◌, ◌≤◌, Bool, true, false, cond, List, [], ◌∷◌, ◌++◌, map, length, take, drop, replicate, Ok, Result, sym, refl, ap, ◌∙◌, subst, arith}
+use Rattle.std.proofs.Common.{◌≡◌, ℕ, ◌-◌, ◌<◌, ◌≤◌, Bool, true, false, cond, List, [], ◌∷◌, ◌++◌, map, length, take, drop, replicate, Some, None, Option, Ok, Result, sym, refl, ap, ◌∙◌, subst, arith}
 use denote.Struct.Cover.{Cover-one}
 use Rattle.std.specs.List.{ContainsAt as Has, flat_map, AllByRecursion}
 use Rattle.std.proofs.lemmas.List.{length-map, length-take-le, take-append-drop}
@@ -7,8 +7,8 @@ use Rattle.std.proofs.ByRecursion.{All-weaker, All-append}
 use Rattle.text.specs.declared.line.Line.{Line}
 use Rattle.text.specs.declared.line.Line.TheVariants as line
 use Rattle.text.specs.Numerals.{kept}
-use Rattle.book.specs.declared.rule.Rule.{Rule}
-use Rattle.book.specs.declared.rule.Rule.TheVariants.{Free, Order, Notice}
+use Rattle.text.specs.declared.line.Rule.{Rule}
+use Rattle.text.specs.declared.line.Rule.TheVariants.{Order, Notice}
 use Rattle.book.specs.declared.refusal.Refusal.{Refusal}
 use Rattle.book.specs.declared.tables.Book.{Book}
 use Rattle.book.specs.contracts.tables.Book.{the_type}
@@ -74,16 +74,16 @@ rows_same f one low blank size xs ys m n p q e =
     let rest : drop m xs ≡ drop n ys = p.3 ∙ ap (λ k. replicate (size - k) blank) count ∙ sym q.3 in
     (sym (take-append-drop m xs) ∙ (λ i. used i ++ rest i) ∙ take-append-drop n ys, count)
 
-rule_same : (m : ℕ) (x y : Rule) → rule_line m x ≡ rule_line m y → x ≡ y
-rule_same m Free Free e = refl
-rule_same m Free (Order o) e = absurd (no_cons _ _ (sym e))
-rule_same m Free (Notice n) e = absurd (no_cons _ _ (sym e))
-rule_same m (Order o) Free e = absurd (no_cons _ _ e)
-rule_same m (Order o) (Order p) e = cc
-rule_same m (Order o) (Notice n) e = cc
-rule_same m (Notice n) Free e = absurd (no_cons _ _ e)
-rule_same m (Notice n) (Order o) e = cc
-rule_same m (Notice n) (Notice o) e = cc
+rule_same : (m : ℕ) (x y : Option Rule) → rule_line m x ≡ rule_line m y → x ≡ y
+rule_same m None None e = refl
+rule_same m None (Some (Order o)) e = absurd (no_cons _ _ (sym e))
+rule_same m None (Some (Notice n)) e = absurd (no_cons _ _ (sym e))
+rule_same m (Some (Order o)) None e = absurd (no_cons _ _ e)
+rule_same m (Some (Order o)) (Some (Order p)) e = cc
+rule_same m (Some (Order o)) (Some (Notice n)) e = cc
+rule_same m (Some (Notice n)) None e = absurd (no_cons _ _ e)
+rule_same m (Some (Notice n)) (Some (Order o)) e = cc
+rule_same m (Some (Notice n)) (Some (Notice o)) e = cc
 
 flag_same : (l : Line) (x y : Bool) → cond x (l ∷ []) [] ≡ cond y (l ∷ []) [] → x ≡ y
 flag_same l true true e = refl

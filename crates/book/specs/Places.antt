@@ -2,7 +2,6 @@
 use Rattle.std.specs.Prelude.{ℕ, ◌-◌, false, cond, List, [], ◌∷◌, Some, None, Option, nat_lt, slice_index_or}
 use Rattle.text.specs.declared.line.Line.{Line}
 use Rattle.text.specs.declared.line.Line.TheVariants.{Open, Watch, Link}
-use Rattle.book.specs.declared.rule.Rule.TheVariants.{Free}
 use Rattle.book.specs.declared.tables.Book.{Book}
 use Rattle.book.specs.Ranks.{Kind, kinds, rules, opens, watches, links, ends, bares}
 use Rattle.book.specs.Tables.{blank_watch, blank_link, rule_line, end_line, bare_line}
@@ -22,7 +21,7 @@ row_line f blank rows n k = cond (nat_lt k n) (f (slice_index_or rows k blank) �
 
 -- the line, if any, at a place of a kind
 abbrev pub line_in : Book → Kind → ℕ → List Line
-line_in b rules k = rule_line k (slice_index_or b.rules k Free)
+line_in b rules k = rule_line k (slice_index_or b.rules k None)
 line_in b opens k = row_line Open 0 b.opens b.opening k
 line_in b watches k = row_line Watch blank_watch b.watches b.watching k
 line_in b links k = row_line Link blank_link b.links b.linking k

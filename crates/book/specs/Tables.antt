@@ -1,14 +1,14 @@
 -- The tables of a book: what stands in them, and what a place holds that is not in use.
-use Rattle.std.specs.Prelude.{◌≡◌, ℕ, ◌+◌, Bool, true, false, cond, List, [], ◌∷◌, ◌++◌}
+use Rattle.std.specs.Prelude.{◌≡◌, ℕ, ◌+◌, Bool, true, false, cond, List, [], ◌∷◌, ◌++◌, Some, None, Option}
 use Rattle.std.proofs.Common.{zero-le}
 use Rattle.grade.specs.declared.upto.UpTo.{UpTo}
 use Rattle.text.specs.declared.line.Line.{Line}
 use Rattle.text.specs.declared.line.Line.TheVariants as line
 use Rattle.text.specs.declared.line.WatchLine.{WatchLine}
 use Rattle.text.specs.declared.line.LinkLine.{LinkLine}
+use Rattle.text.specs.declared.line.Rule.{Rule}
+use Rattle.text.specs.declared.line.Rule.TheVariants.{Order, Notice}
 use Rattle.text.specs.Numerals.{kept}
-use Rattle.book.specs.declared.rule.Rule.{Rule}
-use Rattle.book.specs.declared.rule.Rule.TheVariants.{Free, Order, Notice}
 
 -- the number of a blank row
 abbrev pub nought : (max : ℕ) → UpTo max
@@ -22,10 +22,10 @@ abbrev pub blank_link : LinkLine
 blank_link = record { node = nought 63; wagon = nought 31; to = nought 63 }
 
 -- the rule, if any, stands at its own number
-abbrev pub AtNumber : ℕ → Rule → Type 0
-AtNumber k Free = Unit {0}
-AtNumber k (Order o) = o.number.value ≡ k
-AtNumber k (Notice n) = n.number.value ≡ k
+abbrev pub AtNumber : ℕ → Option Rule → Type 0
+AtNumber k None = Unit {0}
+AtNumber k (Some (Order o)) = o.number.value ≡ k
+AtNumber k (Some (Notice n)) = n.number.value ≡ k
 
 -- each of these holds of its number, where the first has number k
 abbrev pub Along : {X : Type 0} → (ℕ → X → Type 0) → ℕ → List X → Type 0
@@ -33,10 +33,10 @@ Along P k [] = Unit {0}
 Along P k (x ∷ xs) = P k x × Along P (k + 1) xs
 
 -- the line, if any, at a place k of a table in which places go by number
-abbrev pub rule_line : ℕ → Rule → List Line
-rule_line k Free = []
-rule_line k (Order o) = line.Order o ∷ []
-rule_line k (Notice n) = line.Notice n ∷ []
+abbrev pub rule_line : ℕ → Option Rule → List Line
+rule_line k None = []
+rule_line k (Some (Order o)) = line.Order o ∷ []
+rule_line k (Some (Notice n)) = line.Notice n ∷ []
 
 -- a place that is set stands for the line with the place's number, which is within its limit
 abbrev pub end_line : ℕ → Bool → List Line

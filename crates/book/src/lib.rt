@@ -4,5 +4,4 @@
 
 pub mod refusal;
 mod rows;
-pub mod rule;
 pub mod tables;

@@ -6,16 +6,16 @@ ghost use Rattle.book.specs.Tables.{Along, AtNumber, blank_watch, blank_link};
 
 mod accept;
 mod blank;
+mod used;
 mod write;
 
-use crate::rule::Rule;
-use text::line::{LinkLine, WatchLine};
+use text::line::{LinkLine, Rule, WatchLine};
 
 // The lines that stand in an order book. Equal books are equal records: each table is kept in order, the unused rest blank.
 #[derive(Drop)]
 pub struct Book {
-    // an order or notice stands at its own number
-    pub rules: [Rule; 64],
+    // an order or notice, if one stands, stands at its own number
+    pub rules: [Option<Rule>; 64],
     // the phases of the open lines, of which there are `opening`
     pub opens: [u64; 8],
     pub opening: usize,

@@ -1,19 +1,17 @@
 // Entering lines into a book.
-ghost use Rattle.std.specs.Prelude.{◌≡◌, ◌<◌, false, Ok, Err, MatchResult, slice_index_or};
+ghost use Rattle.std.specs.Prelude.{◌≡◌, ◌<◌, false, None, Ok, Err, MatchResult, slice_index_or};
 ghost use Rattle.text.specs.Meaning.{Within};
 ghost use Rattle.book.specs.Order.{put};
 ghost use Rattle.book.specs.Ranks.{rank};
 ghost use Rattle.book.specs.Tables.{rule_line, filled};
 ghost use Rattle.book.specs.Lines.{lines};
-ghost use Rattle.book.specs.declared.rule.Rule.TheVariants.{Free};
 ghost use Rattle.book.specs.Entering.{clashes, full, entered};
 ghost use Rattle.book.specs.Words.{Joins, Refused};
 
 use crate::refusal::Refusal;
 use crate::rows::{contains, place};
-use crate::rule::Rule;
 use crate::tables::Book;
-use text::line::Line;
+use text::line::{Line, Rule};
 use text::reader::read_line;
 
 impl Book {
@@ -25,9 +23,9 @@ impl Book {
         match line {
             Line::Order(o) => self.has_rule(o.number.get() as usize),
             Line::Notice(n) => self.has_rule(n.number.get() as usize),
-            Line::Open(phase) => contains(&self.opens[0..self.opening], phase),
-            Line::Watch(w) => contains(&self.watches[0..self.watching], w),
-            Line::Link(k) => contains(&self.links[0..self.linking], k),
+            Line::Open(phase) => contains(self.opens_in_use(), phase),
+            Line::Watch(w) => contains(self.watches_in_use(), w),
+            Line::Link(k) => contains(self.links_in_use(), k),
             Line::End(t) => self.ends[t.get() as usize],
             Line::Bare(p) => self.bares[p.get() as usize],
         }
@@ -35,13 +33,9 @@ impl Book {
 
     fn has_rule(&self, number: usize) -> bool
         requires { number < 64 }
-        ensures { result ≡ filled (rule_line number (slice_index_or self.now.rules number Free)) }
+        ensures { result ≡ filled (rule_line number (slice_index_or self.now.rules number None)) }
     {
-        let rule = self.rules[number];
-        match rule {
-            Rule::Free => false,
-            Rule::Order(_) | Rule::Notice(_) => true,
-        }
+        self.rules[number].is_some()
     }
 
     // Whether as many lines of this kind stand as a book holds.
@@ -64,8 +58,8 @@ impl Book {
         ensures { lines self.new ≡ put rank line (lines self.old) }
     {
         match line {
-            Line::Order(o) => self.rules[o.number.get() as usize] = Rule::Order(o),
-            Line::Notice(n) => self.rules[n.number.get() as usize] = Rule::Notice(n),
+            Line::Order(o) => self.rules[o.number.get() as usize] = Some(Rule::Order(o)),
+            Line::Notice(n) => self.rules[n.number.get() as usize] = Some(Rule::Notice(n)),
             Line::Open(phase) => {
                 place(&mut self.opens, self.opening, phase);
                 self.opening += 1;

@@ -3,7 +3,6 @@ ghost use Rattle.std.specs.Prelude.{◌≡◌, []};
 ghost use Rattle.book.specs.Tables.{nought, blank_watch, blank_link};
 ghost use Rattle.book.specs.Lines.{lines};
 
-use crate::rule::Rule;
 use crate::tables::Book;
 use grade::upto::UpTo;
 use text::line::{LinkLine, WatchLine};
@@ -41,7 +40,7 @@ impl Book {
         ensures { lines result ≡ [] }
     {
         Book {
-            rules: [Rule::Free; 64],
+            rules: [None; 64],
             opens: [0; 8],
             opening: 0,
             watches: [blank_watch(); 128],

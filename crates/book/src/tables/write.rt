@@ -8,10 +8,9 @@ ghost use Rattle.book.specs.Places.{line_at, listing};
 ghost use Rattle.book.specs.Writing.{ended, book_text, Tells};
 
 use crate::refusal::Refusal;
-use crate::rule::Rule;
 use crate::tables::Book;
 use grade::upto::UpTo;
-use text::line::Line;
+use text::line::{Line, Rule};
 use text::writer::write_line;
 
 // How many places the tables have together.
@@ -53,9 +52,9 @@ impl Book {
         if k < 64 {
             let rule = self.rules[k];
             return match rule {
-                Rule::Free => None,
-                Rule::Order(o) => Some(Line::Order(o)),
-                Rule::Notice(n) => Some(Line::Notice(n)),
+                None => None,
+                Some(Rule::Order(o)) => Some(Line::Order(o)),
+                Some(Rule::Notice(n)) => Some(Line::Notice(n)),
             };
         }
         let k = k - 64;

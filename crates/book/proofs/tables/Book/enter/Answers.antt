@@ -1,9 +1,9 @@
 -- Each arm puts the line into one table, which stays in order, and leaves the others.
-use Rattle.std.proofs.Common.{◌≡◌, ◌^◌, ◌<◌, false, sym, refl, ap, ◌∙◌, subst, arith}
+use Rattle.std.proofs.Common.{◌≡◌, ◌^◌, ◌<◌, false, Some, sym, refl, ap, ◌∙◌, subst, arith}
 use Rattle.std.proofs.lemmas.List.{length-set}
 use Rattle.text.specs.declared.line.Line.TheVariants.{Order, Notice, Open, Watch, Link, End, Bare}
 use Rattle.text.specs.Meaning.{Within}
-use Rattle.book.specs.declared.rule.Rule.TheVariants as rule
+use Rattle.text.specs.declared.line.Rule.TheVariants as rule
 use Rattle.book.specs.Order.{put}
 use Rattle.book.specs.Ranks.{rank, phase_rank}
 use Rattle.book.specs.Tables.{AtNumber}
@@ -39,13 +39,13 @@ pub invariant_of-self : goal.invariant_of-self
 invariant_of-self c =
     let b = c.args.self.now in
     let i = c.get.result in
-    let r = rule.Order c.in-Order.o in record { numbered = (length-set b.rules i r ∙ b.numbered.0, ∣ along_set AtNumber 0 b.rules i i r (omega arith) (sym c.get.ensures) (at_numbers b) ∣₁); phases = b.phases; opened = b.opened; watched = b.watched; linked = b.linked; marked = b.marked }
+    let r = Some (rule.Order c.in-Order.o) in record { numbered = (length-set b.rules i r ∙ b.numbered.0, ∣ along_set AtNumber 0 b.rules i i r (omega arith) (sym c.get.ensures) (at_numbers b) ∣₁); phases = b.phases; opened = b.opened; watched = b.watched; linked = b.linked; marked = b.marked }
 
 pub invariant_of-self-in-Notice : goal.invariant_of-self-in-Notice
 invariant_of-self-in-Notice c =
     let b = c.args.self.now in
     let i = c.get-in-Notice.result in
-    let r = rule.Notice c.in-Notice.n in record { numbered = (length-set b.rules i r ∙ b.numbered.0, ∣ along_set AtNumber 0 b.rules i i r (omega arith) (sym c.get-in-Notice.ensures) (at_numbers b) ∣₁); phases = b.phases; opened = b.opened; watched = b.watched; linked = b.linked; marked = b.marked }
+    let r = Some (rule.Notice c.in-Notice.n) in record { numbered = (length-set b.rules i r ∙ b.numbered.0, ∣ along_set AtNumber 0 b.rules i i r (omega arith) (sym c.get-in-Notice.ensures) (at_numbers b) ∣₁); phases = b.phases; opened = b.opened; watched = b.watched; linked = b.linked; marked = b.marked }
 
 pub invariant_of-self-in-Open : goal.invariant_of-self-in-Open
 invariant_of-self-in-Open c =
@@ -81,7 +81,7 @@ returns-in-Order c =
     let l = Order c.in-Order.o in
     let fits = c.in-Order.o.number.fits in
     let new = subst (λ m. clashes (lines b) m ≡ false) c.in-Order.is c.requires.new in
-    put_lines b _ l tt tt (refl, (refl, (refl, (refl, (refl, tt))))) (rule_put b l c.get.result refl tt (sym c.get.ensures) (omega arith) new (rule.Order c.in-Order.o) refl)
+    put_lines b _ l tt tt (refl, (refl, (refl, (refl, (refl, tt))))) (rule_put b l c.get.result refl tt (sym c.get.ensures) (omega arith) new (Some (rule.Order c.in-Order.o)) refl)
     ∙ ap (λ m. put rank m (lines b)) (sym c.in-Order.is)
 
 pub returns-in-Notice : goal.returns-in-Notice
@@ -90,7 +90,7 @@ returns-in-Notice c =
     let l = Notice c.in-Notice.n in
     let fits = c.in-Notice.n.number.fits in
     let new = subst (λ m. clashes (lines b) m ≡ false) c.in-Notice.is c.requires.new in
-    put_lines b _ l tt tt (refl, (refl, (refl, (refl, (refl, tt))))) (rule_put b l c.get-in-Notice.result refl tt (sym c.get-in-Notice.ensures) (omega arith) new (rule.Notice c.in-Notice.n) refl)
+    put_lines b _ l tt tt (refl, (refl, (refl, (refl, (refl, tt))))) (rule_put b l c.get-in-Notice.result refl tt (sym c.get-in-Notice.ensures) (omega arith) new (Some (rule.Notice c.in-Notice.n)) refl)
     ∙ ap (λ m. put rank m (lines b)) (sym c.in-Notice.is)
 
 pub returns-in-Open : goal.returns-in-Open

@@ -1,6 +1,5 @@
 -- A line clashes only with lines of its own kind, which stand in one table.
-use Rattle.std.proofs.Common.{take, sym, refl, ap, ◌∙◌, subst, arith}
-use native.Mathlib.Nat.{sub-zero}
+use Rattle.std.proofs.Common.{sym, refl, ap, ◌∙◌, subst, arith}
 use Rattle.text.specs.declared.line.Line.TheVariants.{Order, Notice}
 use Rattle.text.specs.Meaning.{Within}
 use Rattle.book.specs.Order.{among}
@@ -26,19 +25,19 @@ pub returns-in-Open : goal.returns-in-Open
 returns-in-Open c =
     let b = c.args.self.now in
     let x = c.in-Open.phase in
-    c.contains.ensures ∙ (λ i. among phase_rank (phase_rank x) (take (sub-zero b.opening i) b.opens)) ∙ sym (ap (clashes (lines b)) c.in-Open.is ∙ rows_clash (opens_rows b) x (subst Within c.in-Open.is c.requires))
+    c.contains.ensures ∙ ap (among phase_rank (phase_rank x)) c.opens_in_use.ensures ∙ sym (ap (clashes (lines b)) c.in-Open.is ∙ rows_clash (opens_rows b) x (subst Within c.in-Open.is c.requires))
 
 pub returns-in-Watch : goal.returns-in-Watch
 returns-in-Watch c =
     let b = c.args.self.now in
     let x = c.in-Watch.w in
-    c.contains-in-Watch.ensures ∙ (λ i. among watch_rank (watch_rank x) (take (sub-zero b.watching i) b.watches)) ∙ sym (ap (clashes (lines b)) c.in-Watch.is ∙ rows_clash (watches_rows b) x tt)
+    c.contains-in-Watch.ensures ∙ ap (among watch_rank (watch_rank x)) c.watches_in_use.ensures ∙ sym (ap (clashes (lines b)) c.in-Watch.is ∙ rows_clash (watches_rows b) x tt)
 
 pub returns-in-Link : goal.returns-in-Link
 returns-in-Link c =
     let b = c.args.self.now in
     let x = c.in-Link.k in
-    c.contains-in-Link.ensures ∙ (λ i. among link_rank (link_rank x) (take (sub-zero b.linking i) b.links)) ∙ sym (ap (clashes (lines b)) c.in-Link.is ∙ rows_clash (links_rows b) x tt)
+    c.contains-in-Link.ensures ∙ ap (among link_rank (link_rank x)) c.links_in_use.ensures ∙ sym (ap (clashes (lines b)) c.in-Link.is ∙ rows_clash (links_rows b) x tt)
 
 pub returns-in-End : goal.returns-in-End
 returns-in-End c =
