@@ -27,6 +27,7 @@ impl TotalOrder for Class {
     }
 }
 
+#[tactic(auto, using(crate::specs::ValuesLemmas::same_class))]
 impl Grade for Class {
     const BEST: Self = Class {
         class: UpTo { value: 0 },
@@ -63,11 +64,7 @@ impl Grade for Class {
     }
 
     fn joined(self, next: Self) -> Self {
-        Class {
-            class: UpTo {
-                value: self.class.value.max(next.class.value),
-            },
-        }
+        self.max(next)
     }
 
     fn agrees() {}

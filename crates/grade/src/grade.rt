@@ -34,6 +34,7 @@ pub trait Grade: TotalOrder {
     fn agrees()
         ensures { (a b : Self) → Self.TotalOrder.before a b ≡ noworse a b };
 
+    // The laws. Each impl shows its own: a default would have to hold of every grade at once.
     ghost assoc: { Associative join };
 
     ghost unitl: { UnitLeft join best };

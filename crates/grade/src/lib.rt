@@ -5,7 +5,6 @@
 pub mod class;
 pub mod grade;
 pub mod minutes;
-pub mod minutes_grade;
 pub mod order;
 pub mod plain;
 pub mod theorems;

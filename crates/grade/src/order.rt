@@ -1,5 +1,6 @@
 // An order: which of two entries is no worse. Entries can be copied, so that they can change
-// places in a lent table.
+// places in a lent table. It stands beside std's `Ord`, which would ask more of an entry's type: an
+// `==` and two comparisons. And what `Ord` calls equal may differ, where here it is the same.
 ghost use Rattle.std.specs.Prelude.{◌≡◌, Bool, nat_le};
 ghost use Rattle.grade.specs.Laws.{Total, Transitive, Antisymmetric};
 ghost use Rattle.std.proofs.Common.{rules};

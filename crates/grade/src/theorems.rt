@@ -13,6 +13,7 @@ pub fn lawful<G: Grade>()
 }
 
 // The grade of one run and then another is the join of their grades.
+#[tactic(auto, using(crate::proofs::Joins::run_grade_append))]
 pub fn run_grade_goes_to_join<G: Grade>()
     ensures { GoesToJoin G.Grade.own }
 {
@@ -20,6 +21,7 @@ pub fn run_grade_goes_to_join<G: Grade>()
 }
 
 // 999,999 minutes joined with 1 and then 9,999 are 1,000,000.
+#[tactic(auto, using(crate::specs::ValuesLemmas::same_minutes))]
 pub fn minutes_stop()
     ensures { MinutesStop }
 {}

@@ -12,6 +12,7 @@ pub struct Waiting<G> {
     pub row: usize,
 }
 
+// Written out: a derive would ask for an `Ord` of the grade, which has an order of its own.
 impl<G: Grade> TotalOrder for Waiting<G> {
     ghost before = { sooner G.TotalOrder.before };
 
@@ -22,12 +23,7 @@ impl<G: Grade> TotalOrder for Waiting<G> {
     ghost antisymmetric = { Prim.search rules };
 
     fn no_worse(&self, other: &Waiting<G>) -> bool {
-        if !self.grade.no_worse(&other.grade) {
-            return false;
-        }
-        if !other.grade.no_worse(&self.grade) {
-            return true;
-        }
-        self.row <= other.row
+        self.grade.no_worse(&other.grade)
+            && (!other.grade.no_worse(&self.grade) || self.row <= other.row)
     }
 }

@@ -1,12 +1,9 @@
 -- How entries that move keep the heap. v and w say what stands at each place.
 use Rattle.std.proofs.Common.{◌≡◌, ℕ, zero, suc, ◌+◌, ◌-◌, ◌*◌, ◌/◌, ◌<◌, ◌≤◌, Bool, true, false, ◌||◌, T, ◌⊎◌, sym, refl, ap, ◌∙◌, subst, inl, inr, ⊎_elim, arith}
-use Rattle.std.proofs.lemmas.Bool.Decides.{eqb_tells}
+use Rattle.std.proofs.lemmas.Bool.{cases_eq}
 use Rattle.std.proofs.lemmas.List.Edits.{Swapped}
 use Rattle.grade.specs.Laws.{Total, Transitive}
 use Rattle.queue.specs.Heaps.{Child, InOrder, HeapBelow, Heap, BestChild, Rising, Sinking}
-
-pub which : (a b : ℕ) → (a ≡ b) ⊎ (a ≡ b → ⊥)
-which a b = ⊎_elim (λ h. inl h.1) (λ h. inr h.1) (eqb_tells a b)
 
 or_cases : (x y : Bool) → T (x || y) → T x ⊎ T y
 or_cases true y h = inl tt
@@ -36,7 +33,7 @@ module _ {X : Type 0} (f : X → X → Bool) where
   risen v j n fits h = λ p k low c l. ⊎_elim
       (λ e. both refl (ap v e) (fits p (omega arith, omega arith)))
       (λ ne. h.others p k c l ne)
-      (which k j)
+      (cases_eq k j)
 
   module _ (total : Total f) (chain : Transitive f) where
     itself : (a : X) → T (f a a)
@@ -52,21 +49,21 @@ module _ {X : Type 0} (f : X → X → Bool) where
       better_child p c o n two t = λ k ch l. ⊎_elim
           (λ e. both refl (ap v e) (itself (v c)))
           (λ ne. both refl (ap v (two k ch l ne)) t)
-          (which k c)
+          (cases_eq k c)
 
       -- the entry that sinks is no worse than the better one below it
       pub rests : (p c n : ℕ) → InOrder f v p c → BestChild f v p c n → Sinking f v p n → Heap f v n
       rests p c n t best h = λ q k low ch l. ⊎_elim
           (λ e. both (ap v e) refl (chain _ _ _ t (best k (omega arith, omega arith) l)))
           (λ ne. h.others q k ch l ne)
-          (which q p)
+          (cases_eq q p)
 
       below_top : (n : ℕ) → Heap f v n → (fuel k : ℕ) → k ≤ fuel → k < n → InOrder f v 0 k
       below_top n h zero k a b = let e : k ≡ 0 = omega arith in both refl (ap v e) (itself (v 0))
       below_top n h (suc fuel) k a b = ⊎_elim
           (λ e. both refl (ap v e) (itself (v 0)))
           (λ ne. chain _ _ _ (below_top n h fuel ((k - 1) / 2) (omega arith) (omega arith)) (h ((k - 1) / 2) k (omega arith) (omega arith, omega arith) b))
-          (which k 0)
+          (cases_eq k 0)
 
       -- no entry of a heap is better than the first
       pub first_best : (n : ℕ) → Heap f v n → (k : ℕ) → k < n → InOrder f v 0 k
@@ -80,12 +77,12 @@ module _ {X : Type 0} (f : X → X → Bool) where
             (λ e. ⊎_elim
             (λ d. both (ap w e ∙ s.0) (ap w d ∙ s.1) t)
             (λ d. both (ap w e ∙ s.0) (s.2 k (omega arith) d) (best k (omega arith, omega arith) l))
-            (which k c))
+            (cases_eq k c))
             (λ e. ⊎_elim
             (λ d. both (s.2 q e u) (ap w d ∙ s.0) (h.bridged q c (omega arith, omega arith) pc low))
             (λ d. both (s.2 q e u) (s.2 k d (omega arith)) (h.others q k ch l e))
-            (which k p))
-            (which q p);
+            (cases_eq k p))
+            (cases_eq q p);
         bridged = λ q k qc ck l. let e : q ≡ p = omega arith in
             both (ap w e ∙ s.0) (s.2 k (omega arith) (omega arith)) (h.others c k ck l (omega arith));
       }
@@ -96,17 +93,17 @@ module _ {X : Type 0} (f : X → X → Bool) where
             (λ e. ⊎_elim
             (λ d. both (ap w e ∙ s.0) (ap w d ∙ s.1) t)
             (λ d. both (ap w e ∙ s.0) (s.2 k u d) (chain _ _ _ t (h.others p k (omega arith, omega arith) l d)))
-            (which k c))
+            (cases_eq k c))
             (λ e. ⊎_elim
             (λ d. both (ap w d ∙ s.1) (s.2 k u (omega arith)) (h.bridged p k pc (omega arith, omega arith) l))
             (λ d. both (s.2 q e d) (s.2 k u (omega arith)) (h.others q k ch l (omega arith)))
-            (which q c))
-            (which q p);
+            (cases_eq q c))
+            (cases_eq q p);
         bridged = λ q k qp pk l.
             let over = h.others q p qp (omega arith) (omega arith) in
             let same = s.2 q (omega arith) (omega arith) in
             ⊎_elim
             (λ d. both same (ap w d ∙ s.1) over)
             (λ d. both same (s.2 k (omega arith) d) (chain _ _ _ over (h.others p k pk l d)))
-            (which k c);
+            (cases_eq k c);
       }

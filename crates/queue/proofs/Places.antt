@@ -4,17 +4,10 @@ use Rattle.std.specs.List.{swap}
 use Rattle.std.specs.List.Sorted.{IsPermutation}
 use Rattle.std.proofs.lemmas.List.{length-take-le, get_or-take, drop-set-lt, set-set}
 use Rattle.std.proofs.lemmas.List.Sorted.{IsPermutation-refl, IsPermutation-trans}
+use Rattle.std.proofs.Math.Seq.{take-set-lt}
 use Rattle.queue.specs.Heaps.{Reordered}
 
 module _ {X : Type 0} where
-  pub take_set_in : (n : ℕ) (xs : List X) (i : ℕ) (y : X) → take n (set xs i y) ≡ set (take n xs) i y
-  take_set_in zero [] i y = refl
-  take_set_in (suc n) [] i y = refl
-  take_set_in zero (x ∷ xs) zero y = refl
-  take_set_in zero (x ∷ xs) (suc i) y = refl
-  take_set_in (suc n) (x ∷ xs) zero y = refl
-  take_set_in (suc n) (x ∷ xs) (suc i) y = ap (λ (l : List X). x ∷ l) (take_set_in n xs i y)
-
   take_exchanged : (n : ℕ) (xs : List X) (i j : ℕ) → i < n → j < n → take n (swap xs i j) ≡ swap (take n xs) i j
   take_exchanged zero xs i j p q = absurd (omega arith)
   take_exchanged (suc n) [] i j p q = refl
@@ -23,8 +16,8 @@ module _ {X : Type 0} where
       let a = get_or l j e in
       let b = get_or l i e in
       let t = take (suc n) l in
-      take_set_in (suc n) (set l i a) j b
-      ∙ ap (λ (m : List X). set m j b) (take_set_in (suc n) l i a)
+      take-set-lt (suc n) (set l i a) j b q
+      ∙ ap (λ (m : List X). set m j b) (take-set-lt (suc n) l i a p)
       ∙ ap (λ (u : X). set (set t i u) j b) (sym (get_or-take (suc n) l j e q))
       ∙ ap (λ (u : X). set (set t i (get_or t j e)) j u) (sym (get_or-take (suc n) l i e p))
 

@@ -5,11 +5,13 @@ use Rattle.std.specs.List.Sorted.{IsPermutation}
 use Rattle.std.proofs.lemmas.List.{get_or_read, get_or-take, get_or-set_same, get_or-set_other, length-set, length-take-le, take_more, take_more_set, drop_more, drop-set-lt}
 use Rattle.std.proofs.lemmas.List.Sorted.{IsPermutation-sym, IsPermutation-trans, IsPermutation-cons, IsPermutation-to_front}
 use Rattle.std.proofs.lemmas.List.Edits.{Swapped}
+use Rattle.std.proofs.lemmas.Bool.{cases_eq}
+use Rattle.std.proofs.Math.Seq.{take-set-lt}
 use Rattle.grade.specs.Laws.{Total, Transitive}
 use Rattle.queue.specs.Heaps.{at, Heap, HeapBelow, Rising, Reordered}
 use Rattle.queue.specs.Queues.{Put, Taken, Replaced}
-use Rattle.queue.proofs.Orders.{which, both, first_best}
-use Rattle.queue.proofs.Places.{swaps, take_set_in, others, to_front, others_set}
+use Rattle.queue.proofs.Orders.{both, first_best}
+use Rattle.queue.proofs.Places.{swaps, others, to_front, others_set}
 
 module _ {X : Type 0} (f : X → X → Bool) (xs ys : List X) (n : ℕ) (long : length ys ≡ length xs) where
   -- e stood behind the queue and rose
@@ -48,7 +50,7 @@ module _ {X : Type 0} (f : X → X → Bool) (xs ys : List X) (n : ℕ) (long : 
           better = better;
           others = others (take n xs) k;
           before = to_front (take n xs) k old (omega arith) (λ d. get_or-take n xs k d l ∙ is d);
-          after = IsPermutation-trans _ _ _ (IsPermutation-sym _ _ come) (subst (λ (t : List X). IsPermutation t (take n ys)) (take_set_in n xs k e) r.front);
+          after = IsPermutation-trans _ _ _ (IsPermutation-sym _ _ come) (subst (λ (t : List X). IsPermutation t (take n ys)) (take-set-lt n xs k e l) r.front);
           behind = r.back ∙ drop-set-lt n xs k e l;
           queue = λ q. record { room = omega arith; heap = λ d. heap n d l (lifted d (q.heap d)) };
         }
@@ -62,7 +64,7 @@ module _ {X : Type 0} (f : X → X → Bool) (xs ys : List X) (n : ℕ) (long : 
           others = λ p q c m u. ⊎_elim
               (λ s. both f (ap (at (set xs k e) d) s ∙ get_or-set_same xs k e d (omega arith)) (get_or-set_other xs k q e d u) (over d q (h k q (omega arith) (omega arith, omega arith) m)))
               (λ s. both f (get_or-set_other xs k p e d s) (get_or-set_other xs k q e d u) (h p q (omega arith) c m))
-              (which p k);
+              (cases_eq p k);
           bridged = λ p q c b m. both f (get_or-set_other xs k p e d (omega arith)) (get_or-set_other xs k q e d (omega arith)) (chain _ _ _ (h p k (omega arith) c l) (h k q (omega arith) b m));
         }
 
@@ -83,10 +85,10 @@ module _ {X : Type 0} (f : X → X → Bool) (xs ys : List X) (n : ℕ) (long : 
         let long_take = length-take-le n xs le in record {
           some = pos;
           room = le;
-          held = (0, omega arith, λ d. get_or-take n xs 0 d pos ∙ sym (first d));
+          held = (0, omega arith, get_or-take n xs 0 e pos ∙ sym (first e));
           best = λ q x h.
               let k : h.0 < n = omega (arith, h.1) in
-              both f (first x) (sym (h.2 x) ∙ get_or-take n xs h.0 x k) (first_best f total chain (at xs x) n (q.heap x) h.0 k);
+              both f (first x) (sym h.2 ∙ get_or-take n xs h.0 x k) (first_best f total chain (at xs x) n (q.heap x) h.0 k);
           entries = IsPermutation-trans _ _ _ (subst (IsPermutation (take n xs)) cut w.front) (IsPermutation-trans _ _ _ (IsPermutation-to_front (take m ws) e) (IsPermutation-cons e _ _ r.front));
           behind = r.back ∙ out ∙ ap (λ (l : List X). e ∷ l) w.back;
           queue = λ q. record {

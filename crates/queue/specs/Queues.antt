@@ -3,13 +3,13 @@
 -- as often, in whatever order.
 use Rattle.std.specs.Prelude.{◌≡◌, ℕ, ◌+◌, ◌-◌, ◌<◌, ◌≤◌, Bool, T, List, ◌∷◌, length, take, drop, slice_index_or}
 use Rattle.std.specs.List.Sorted.{IsPermutation}
-use Rattle.std.specs.List.{ContainsAt as Has}
+use Rattle.std.specs.List.{Contains}
 use Rattle.queue.specs.Heaps.{at, Heap}
 
 module _ {X : Type 0} where
   -- e is one of the entries in the queue
   abbrev pub Holds : List X → ℕ → X → Type 0
-  Holds xs n e = Has (take n xs) e
+  Holds xs n e = Contains (take n xs) e
 
   -- e stands at this place of the queue
   pub record StandsAt (xs : List X) (n place : ℕ) (e : X) : Type 0 where

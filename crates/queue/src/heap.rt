@@ -36,6 +36,7 @@ pub(crate) fn sift_down<E: TotalOrder>(places: &mut [E], n: usize)
     ensures heap { (d : E) → HeapBelow E.before (at places.old d) 1 n → Heap E.before (at places.new d) n }
 {
     let mut p = 0;
+    // no `for`: the next place is that of a child
     while p < n / 2 {
         let child = best_child(places, p, n);
         if no_worse_at(places, p, child) {
@@ -53,6 +54,7 @@ pub(crate) fn sift_up<E: TotalOrder>(places: &mut [E], start: usize)
     ensures heap { (n : ℕ) (d : E) → start < n → Rising E.before (at places.old d) start n → Heap E.before (at places.new d) n }
 {
     let mut k = start;
+    // no `for`: the next place is that of the parent
     while 0 < k {
         let parent = (k - 1) / 2;
         if no_worse_at(places, parent, k) {

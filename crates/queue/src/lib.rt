@@ -2,6 +2,7 @@
 // order. It is a binary heap: `put`, `take` and `replace` go along one way from the top to the bottom
 // or back, so they take logarithmic time; `find` looks at all entries. A slice that is no queue is
 // refused with nothing changed, or the contract says what comes of it all the same.
+// The places are lent, with how many are in use: what uses the queue has fixed memory and no heap.
 
 #![tactic(auto)]
 
@@ -38,7 +39,8 @@ pub fn take<E: TotalOrder>(queue: &mut [E], count: usize) -> Option<E>
     Some(best)
 }
 
-// Whether two entries are the same: each is no worse than the other.
+// Whether two entries are the same: each is no worse than the other. Their order tells it, so no
+// `==` is asked of them.
 fn same<E: TotalOrder>(a: &E, b: &E) -> bool
     ensures { Decides result (a.now ≡ b.now) }
 {
@@ -50,12 +52,10 @@ fn same<E: TotalOrder>(a: &E, b: &E) -> bool
 pub fn find<E: TotalOrder>(queue: &[E], count: usize, wanted: &E) -> Option<usize>
     ensures { MatchOption result (Holds queue.now count wanted.now → ⊥) (λ place. StandsAt queue.now count place wanted.now) }
 {
-    for place in 0..count.min(queue.len()) {
-        if same(&queue[place], wanted) {
-            return Some(place);
-        }
-    }
-    None
+    queue
+        .iter()
+        .take(count)
+        .position(|entry| same(entry, wanted))
 }
 
 // Puts `entry` into the queue for the one at `place`, which it answers; None where nothing of the
