@@ -22,17 +22,17 @@ enum Call<E> {
 // Makes the call; answers the count after it, and the entry that went out of the queue.
 fn make<E: TotalOrder>(places: &mut [E], count: usize, call: Call<E>) -> (usize, Option<E>) {
     match call {
-        Call::Put(entry) => match queue::put(places, count, entry) {
-            Some(more) => (more, None),
-            None => (count, None),
-        },
+        Call::Put(entry) => (queue::put(places, count, entry).unwrap_or(count), None),
         Call::Take => match queue::take(places, count) {
             Some(best) => (count - 1, Some(best)),
             None => (count, None),
         },
-        Call::Replace(old, new) => match queue::find(places, count, &old) {
-            Some(place) => (count, queue::replace(places, count, place, new)),
-            None => (count, None),
+        Call::Replace(old, new) => {
+            let place = queue::find(places, count, &old);
+            (
+                count,
+                place.and_then(|place| queue::replace(places, count, place, new)),
+            )
         },
     }
 }
