@@ -1,4 +1,2 @@
-pub mod Lanes
-pub mod Rules
 pub mod Steps
 pub mod Right

@@ -1,44 +1,34 @@
 -- The call makes the move of the model, and refuses only where there is none. Assumes nothing.
-use Rattle.std.proofs.Common.{◌≡◌, ℕ, ◌≤◌, Bool, true, false, ◌&&◌, eqb, leb, List, [], ◌∷◌, length, take, drop, Ok, Err, Result, sym, refl, ap, ◌∙◌, subst, arith}
-use Rattle.std.proofs.lemmas.List.{length-append, take_at, drop_at}
-use Rattle.std.proofs.lemmas.Bool.{both_ways, cond_both, and_from, and_parts, eq-eqb, eqb-true, le-leb, leb-true}
+use Rattle.std.proofs.Common.{◌≡◌, ℕ, ◌≤◌, Bool, true, false, eqb, leb, List, [], ◌∷◌, length, take, drop, Ok, Err, Result, sym, refl, ◌∙◌, subst, arith, rules, tests}
+use Rattle.std.proofs.lemmas.Grind.{common_steps}
+use Rattle.std.proofs.lemmas.Bool.{both_ways, cond_both, eq-eqb, eqb-true, le-leb, leb-true}
 use Rattle.std.specs.List.{AllByRecursion}
 use Rattle.text.specs.declared.line.Line.{Line}
 use Rattle.text.specs.declared.line.Rule.{Rule}
 use Rattle.text.specs.declared.refusal.LineRefusal.{LineRefusal}
-use Rattle.text.specs.declared.refusal.LineRefusal.TheVariants.{Syntax, TooLarge, NotRising}
 use Rattle.text.specs.Forms.{rule_forms}
 use Rattle.text.specs.Reading.{Outcome, rule_line, as_line}
 use Rattle.text.specs.Meaning.{SaysAs}
 use Rattle.model.specs.Moves.{Position, at, Step}
-use Rattle.moves.specs.declared.refusal.MoveRefusal.{MoveRefusal}
 use Rattle.moves.specs.declared.refusal.MoveRefusal.TheVariants.{NoPosition, NotAccepted, NotInForce, Forbidden, NoRoom}
-use Rattle.moves.specs.declared.stage.Stage.{Stage}
-use Rattle.moves.specs.Refusals.{refusal_number}
 use Rattle.moves.specs.Moving.{Handed, start, wagons_fit, is_position, number_of, in_phase, takes, carried, Told, refused, moved, text_says}
 use Rattle.moves.specs.Meaning.{Proper, MovesTo, Right}
 use Rattle.moves.proofs.Steps.{Carries, step_carries, carries_step}
 
 fit_all : (w : List ℕ) → wagons_fit w ≡ true → AllByRecursion (λ k. k ≤ 31) w
 fit_all [] e = tt
-fit_all (k ∷ w) e = let (p, q) = and_parts (leb k 31) (wagons_fit w) e in (leb-true k 31 p, fit_all w q)
+fit_all (k ∷ w) e = search (rules, tests, fit_all w)
 
 all_fit : (w : List ℕ) → AllByRecursion (λ k. k ≤ 31) w → wagons_fit w ≡ true
 all_fit [] h = refl
-all_fit (k ∷ w) h = and_from (leb k 31) (wagons_fit w) (le-leb k 31 h.0) (all_fit w h.1)
+all_fit (k ∷ w) h = search (rules, tests, all_fit w)
 
 module _ (h : Handed) where
-  abbrev wagons : Bool
-  wagons = wagons_fit (start h).lane
-
   proper_from : is_position h.stage h.buffer ≡ true → Proper h
-  proper_from e =
-      let (p, q) = and_parts (leb h.stage.length (length h.buffer)) (leb h.stage.mode 15 && wagons) e in
-      let (m, w) = and_parts (leb h.stage.mode 15) wagons q in
-      record { within = leb-true _ _ p; mode = leb-true _ _ m; wagons = fit_all _ w }
+  proper_from e = record { within = search (rules, tests); mode = search (rules, tests); wagons = fit_all _ (search (rules, tests)) }
 
   proper_to : Proper h → is_position h.stage h.buffer ≡ true
-  proper_to p = and_from _ _ (le-leb _ _ p.within) (and_from _ _ (le-leb _ _ p.mode) (all_fit _ p.wagons))
+  proper_to p = let fit = all_fit _ p.wagons in search (rules, tests)
 
   -- the lane after a move, in front of the buffer
   module _ (y : Position) (le : length y.lane ≤ length h.buffer) where
@@ -46,13 +36,13 @@ module _ (h : Handed) where
     after = (moved h.buffer y).buffer
 
     lane_after : take (length y.lane) after ≡ y.lane
-    lane_after = take_at y.lane (drop (length y.lane) h.buffer) (length y.lane) refl
+    lane_after = grind (arith, common_steps)
 
     behind_after : drop (length y.lane) after ≡ drop (length y.lane) h.buffer
-    behind_after = drop_at y.lane (drop (length y.lane) h.buffer) (length y.lane) refl
+    behind_after = grind (arith, common_steps)
 
     within_after : length y.lane ≤ length after
-    within_after = omega (arith, length-append y.lane (drop (length y.lane) h.buffer))
+    within_after = grind (arith, common_steps)
 
 abbrev Whole : List ℕ → Handed → Told → Type 0
 Whole s h t = Right s h t.answer t.buffer
@@ -133,29 +123,3 @@ text_right s h (Err e) says alone =
       none = λ y m. let e : ◌≡◌ {A = Outcome} (Ok m.line) (Err e) = alone (Ok m.line) m.says in let z : ◌≡◌ {A = ℕ} 0 1 = cc in omega arith;
       stands = refl;
     }
-
--- no refusal under number 5
-abbrev NotFive : Result Stage MoveRefusal → Type 0
-NotFive x = (e : MoveRefusal) → x ≡ Err e → refusal_number e ≡ 5 → ⊥
-
-err_same : (k e : MoveRefusal) → ◌≡◌ {A = Result Stage MoveRefusal} (Err k) (Err e) → k ≡ e
-err_same k e q = cc q
-
-err_not_five : (k : MoveRefusal) → (refusal_number k ≡ 5 → ⊥) → NotFive (Err k)
-err_not_five k other e q f = other (ap refusal_number (err_same k e q) ∙ f)
-
-ok_not_five : (v : Stage) → NotFive (Ok v)
-ok_not_five v e q f = let z : ◌≡◌ {A = ℕ} 0 1 = cc in omega arith
-
-pub text_not_five : (h : Handed) (x : Result Rule LineRefusal) → ((q : ℕ) → x ≡ Err (NotRising q) → ⊥) → NotFive (text_says x h).answer
-text_not_five h (Ok r) rises =
-    rule_cases h r (λ t. NotFive t.answer)
-    (λ _. err_not_five _ (λ f. omega arith))
-    (λ _. err_not_five _ (λ f. omega arith))
-    (λ _. err_not_five _ (λ f. omega arith))
-    (λ _. err_not_five _ (λ f. omega arith))
-    (λ _. err_not_five _ (λ f. omega arith))
-    (λ _ _ _ _ _. ok_not_five _)
-text_not_five h (Err (Syntax p)) rises = err_not_five _ (λ f. omega arith)
-text_not_five h (Err (TooLarge p)) rises = err_not_five _ (λ f. omega arith)
-text_not_five h (Err (NotRising p)) rises = absurd (rises p refl)

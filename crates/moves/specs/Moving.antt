@@ -1,5 +1,6 @@
 -- The call that makes one move: what it is handed, what it answers, and what the buffer then holds.
-use Rattle.std.specs.Prelude.{◌≡◌, ℕ, ◌≤◌, Bool, true, false, cond, ◌&&◌, List, [], ◌∷◌, ◌++◌, map, length, take, drop, Ok, Err, Result, ◌==◌, nat_le}
+use Rattle.std.specs.Prelude.{◌≡◌, ℕ, ◌≤◌, Bool, false, cond, ◌&&◌, List, [], ◌∷◌, ◌++◌, map, length, take, drop, Ok, Err, Result, ◌==◌, nat_le}
+use Rattle.std.specs.List.{list_all}
 use Rattle.text.specs.declared.line.Wagons.{Wagons}
 use Rattle.text.specs.declared.line.Rule.{Rule}
 use Rattle.text.specs.declared.line.Rule.TheVariants.{Order, Notice}
@@ -32,8 +33,7 @@ start h = at h.stage.mode h.stage.phase (take h.stage.length h.buffer)
 
 -- each is a wagon
 abbrev pub wagons_fit : List ℕ → Bool
-wagons_fit [] = true
-wagons_fit (k ∷ w) = nat_le k 31 && wagons_fit w
+wagons_fit w = list_all (λ k. nat_le k 31) w
 
 -- the lane lies in its buffer, and the mode and each wagon are within their limits
 abbrev pub is_position : Stage → List ℕ → Bool

@@ -1,13 +1,11 @@
 -- The number and the place that each refusal of a move is told by.
 use Rattle.std.specs.Prelude.{ℕ}
-use Rattle.text.specs.declared.refusal.LineRefusal.TheVariants.{Syntax, TooLarge, NotRising}
+use Rattle.text.specs.Refusals.{line_number, line_place}
 use Rattle.moves.specs.declared.refusal.MoveRefusal.{MoveRefusal}
 use Rattle.moves.specs.declared.refusal.MoveRefusal.TheVariants.{Text, NoPosition, NotAccepted, NotInForce, Forbidden, NoRoom}
 
 abbrev pub refusal_number : MoveRefusal → ℕ
-refusal_number (Text (Syntax p)) = 1
-refusal_number (Text (TooLarge p)) = 2
-refusal_number (Text (NotRising p)) = 5
+refusal_number (Text e) = line_number e
 refusal_number NoPosition = 9
 refusal_number (NotAccepted n) = 6
 refusal_number NotInForce = 15
@@ -16,9 +14,7 @@ refusal_number NoRoom = 17
 
 -- the byte of the text, counted from 1; the number that is not accepted; 0 where a refusal names none
 abbrev pub refusal_place : MoveRefusal → ℕ
-refusal_place (Text (Syntax p)) = p
-refusal_place (Text (TooLarge p)) = p
-refusal_place (Text (NotRising p)) = p
+refusal_place (Text e) = line_place e
 refusal_place NoPosition = 0
 refusal_place (NotAccepted n) = n
 refusal_place NotInForce = 0

@@ -42,20 +42,15 @@ pub extern "C" fn zenturpa_move(
         phase,
         length: len,
     };
-    match move_lane(line, stage, buffer, number) {
-        Ok(reached) => MoveAnswer {
-            refusal: 0,
-            mode: u32::from(reached.mode),
-            place: 0,
-            phase: reached.phase,
-            len: reached.length,
-        },
-        Err(refusal) => MoveAnswer {
-            refusal: u32::from(refusal.number()),
-            mode: u32::from(mode),
-            place: refusal.place(),
-            phase,
-            len,
-        },
+    let (refusal, place, told) = match move_lane(line, stage, buffer, number) {
+        Ok(reached) => (0, 0, reached),
+        Err(refusal) => (refusal.number(), refusal.place(), stage),
+    };
+    MoveAnswer {
+        refusal: u32::from(refusal),
+        mode: u32::from(told.mode),
+        place,
+        phase: told.phase,
+        len: told.length,
     }
 }

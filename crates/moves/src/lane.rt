@@ -1,19 +1,16 @@
 // A lane in the front of a buffer, its top the first byte.
-ghost use Rattle.std.specs.Prelude.{◌≡◌, ◌<◌, ◌≤◌, length, take, MatchOption};
+ghost use Rattle.std.specs.Prelude.{◌≡◌, ◌<◌, ◌≤◌, length, take, Decides, MatchOption};
+ghost use Rattle.std.specs.List.{AllByRecursion};
 ghost use Rattle.moves.specs.Moving.{wagons_fit, replaced, InFront};
 
 use text::line::Wagons;
 
 // Whether each byte is a wagon.
-pub(crate) fn are_wagons(lane: &[u8]) -> bool
-    ensures { result ≡ wagons_fit lane.now }
+pub fn are_wagons(lane: &[u8]) -> bool
+    ensures value { result ≡ wagons_fit lane.now }
+    ensures each { Decides result (AllByRecursion (λ k. k ≤ 31) lane.now) }
 {
-    for wagon in lane {
-        if *wagon > 31 {
-            return false;
-        }
-    }
-    true
+    lane.iter().all(|wagon| *wagon <= 31)
 }
 
 // Sets these wagons down in the place of the top and gives the lane's new length; where they do not fit, changes nothing.

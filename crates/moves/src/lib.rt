@@ -3,7 +3,7 @@
 #![tactic(auto)]
 
 pub mod export;
-mod lane;
+pub mod lane;
 pub mod moving;
 pub mod phase;
 pub mod refusal;

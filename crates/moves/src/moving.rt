@@ -1,84 +1,24 @@
 // The move: carrying out one line by its number.
-ghost use Rattle.std.specs.Prelude.{◌≡◌, ◌≤◌, length, take, Ok, Err, ◌≢◌};
-ghost use Rattle.text.specs.declared.line.Rule.TheVariants as rule;
-ghost use Rattle.model.specs.Moves.{at};
-ghost use Rattle.moves.specs.Moving.{handed, told, is_position, number_of, takes, rule_says, text_says, move_says};
+ghost use Rattle.std.specs.Prelude.{◌≡◌, Ok, Err, ◌≢◌};
+ghost use Rattle.moves.specs.Moving.{handed, told, is_position, number_of, in_phase, takes, text_says, move_says};
 ghost use Rattle.moves.specs.Meaning.{Right};
 ghost use Rattle.moves.specs.Refusals.{refusal_number};
 
 use crate::lane::{are_wagons, set_down};
-use crate::phase::{after_notice, allowed, in_force};
+use crate::phase::{after_notice, allowed};
 use crate::refusal::MoveRefusal;
 use crate::stage::Stage;
-use text::line::{NoticeLine, OrderLine, Rule};
+use text::line::Rule;
+use text::phase::contains;
 use text::reader::read_rule;
 
 // Whether the mode and the lane, the first bytes of the buffer, are those of a position.
 fn are_position(stage: Stage, buffer: &[u8]) -> bool
     ensures { result ≡ is_position stage buffer.now }
 {
-    stage.length <= buffer.len() && stage.mode <= 15 && are_wagons(&buffer[..stage.length])
-}
-
-// Whether the mode and the top of the lane are the order's.
-fn takes_order(order: &OrderLine, mode: u8, lane: &[u8]) -> bool
-    ensures { result ≡ takes (rule.Order order.now) mode lane.now }
-{
-    match lane {
-        [top, ..] => u16::from(mode) == order.mode.value && u16::from(*top) == order.wagon.value,
-        [] => false,
-    }
-}
-
-// Whether the mode is the notice's and the lane is not empty.
-fn takes_notice(notice: &NoticeLine, mode: u8, lane: &[u8]) -> bool
-    ensures { result ≡ takes (rule.Notice notice.now) mode lane.now }
-{
-    match lane {
-        [_, ..] => u16::from(mode) == notice.mode.value,
-        [] => false,
-    }
-}
-
-fn carry_out_order(order: &OrderLine, stage: Stage, buffer: &mut [u8]) -> Result<Stage, MoveRefusal>
-    requires { stage.length ≤ length buffer.old }
-    ensures { told result buffer.new ≡ rule_says (rule.Order order.now) (at stage.mode stage.phase (take stage.length buffer.old)) buffer.old }
-{
-    if !in_force(stage.phase, order.number) {
-        return Err(MoveRefusal::NotInForce);
-    }
-    if !takes_order(order, stage.mode, &buffer[..stage.length]) {
-        return Err(MoveRefusal::Forbidden);
-    }
-    let Some(length) = set_down(buffer, stage.length, order.wagons) else {
-        return Err(MoveRefusal::NoRoom);
-    };
-    Ok(Stage {
-        mode: order.to.value as u8,
-        phase: stage.phase,
-        length,
-    })
-}
-
-fn carry_out_notice(
-    notice: &NoticeLine,
-    stage: Stage,
-    buffer: &mut [u8],
-) -> Result<Stage, MoveRefusal>
-    requires { stage.length ≤ length buffer.old }
-    ensures { told result buffer.new ≡ rule_says (rule.Notice notice.now) (at stage.mode stage.phase (take stage.length buffer.old)) buffer.old }
-{
-    if !allowed(notice, stage.phase) {
-        return Err(MoveRefusal::NotInForce);
-    }
-    if !takes_notice(notice, stage.mode, &buffer[..stage.length]) {
-        return Err(MoveRefusal::Forbidden);
-    }
-    Ok(Stage {
-        mode: notice.to.value as u8,
-        phase: after_notice(stage.phase, notice),
-        length: stage.length,
-    })
+    buffer
+        .get(..stage.length)
+        .is_some_and(|lane| stage.mode <= 15 && are_wagons(lane))
 }
 
 fn rule_number(rule: &Rule) -> u16
@@ -87,6 +27,28 @@ fn rule_number(rule: &Rule) -> u16
     match rule {
         Rule::Order(order) => order.number.value,
         Rule::Notice(notice) => notice.number.value,
+    }
+}
+
+// Whether the phase has the rule's number and, for a notice, the number that it withdraws.
+fn is_in_phase(rule: &Rule, phase: u64) -> bool
+    ensures { result ≡ in_phase rule.now phase }
+{
+    match rule {
+        Rule::Order(order) => contains(phase, order.number),
+        Rule::Notice(notice) => allowed(notice, phase),
+    }
+}
+
+// Whether the mode is the rule's; an order's wagon is on top, and for a notice there is any wagon.
+fn takes_lane(rule: &Rule, mode: u8, lane: &[u8]) -> bool
+    ensures { result ≡ takes rule.now mode lane.now }
+{
+    match (rule, lane) {
+        (Rule::Order(order), [top, ..]) => u16::from(mode) == order.mode.value
+            && u16::from(*top) == order.wagon.value,
+        (Rule::Notice(notice), [_, ..]) => u16::from(mode) == notice.mode.value,
+        (_, []) => false,
     }
 }
 
@@ -100,9 +62,26 @@ fn carry_out(rule: &Rule, stage: Stage, buffer: &mut [u8], number: u8) -> Result
     if u16::from(number) != rule_number(rule) {
         return Err(MoveRefusal::NotAccepted(number));
     }
+    if !is_in_phase(rule, stage.phase) {
+        return Err(MoveRefusal::NotInForce);
+    }
+    if !takes_lane(rule, stage.mode, &buffer[..stage.length]) {
+        return Err(MoveRefusal::Forbidden);
+    }
     match rule {
-        Rule::Order(order) => carry_out_order(order, stage, buffer),
-        Rule::Notice(notice) => carry_out_notice(notice, stage, buffer),
+        Rule::Order(order) => {
+            let length = set_down(buffer, stage.length, order.wagons).ok_or(MoveRefusal::NoRoom)?;
+            Ok(Stage {
+                mode: order.to.value as u8,
+                length,
+                ..stage
+            })
+        }
+        Rule::Notice(notice) => Ok(Stage {
+            mode: notice.to.value as u8,
+            phase: after_notice(stage.phase, notice),
+            ..stage
+        }),
     }
 }
 
@@ -118,8 +97,6 @@ pub fn move_lane(
     ensures right { Right line.now (handed stage buffer.old number) result buffer.new }
     ensures rises { (e : MoveRefusal) → result ≡ Err e → refusal_number e ≢ 5 }
 {
-    match read_rule(line) {
-        Ok(rule) => carry_out(&rule, stage, buffer, number),
-        Err(refusal) => Err(MoveRefusal::Text(refusal)),
-    }
+    let rule = read_rule(line)?;
+    carry_out(&rule, stage, buffer, number)
 }

@@ -1,29 +1,23 @@
-// Phases as numbers of 64 bits: bit n is set where the order or notice n is in force.
-ghost use Rattle.std.specs.Prelude.{◌≡◌, ◌^◌, Decides};
+// How notices go with phases, which are numbers of 64 bits: bit n is set where the order or notice n is in force.
+ghost use Rattle.std.specs.Prelude.{◌≡◌, Decides};
 ghost use Rattle.text.specs.Phases.{has};
 ghost use Rattle.model.specs.Phases.{Allows, without, after};
 
 use text::line::{NoticeLine, Number};
+use text::phase::{bit, contains};
 
 // Whether the number is in force.
 pub fn in_force(phase: u64, number: Number) -> bool
     ensures { result ≡ has phase number.value }
 {
-    (phase >> number.value) % 2 == 1
+    contains(phase, number)
 }
 
 // Whether the notice can be carried out in the phase.
 pub fn allowed(notice: &NoticeLine, phase: u64) -> bool
     ensures { Decides result (Allows notice.now phase) }
 {
-    in_force(phase, notice.number) && in_force(phase, notice.loses)
-}
-
-// The phase of one number.
-fn bit(number: Number) -> u64
-    ensures { result ≡ 2 ^ number.value }
-{
-    1 << number.value
+    contains(phase, notice.number) && contains(phase, notice.loses)
 }
 
 // The phase without the number.
@@ -34,6 +28,7 @@ fn withdrawn(phase: u64, number: Number) -> u64
 }
 
 // The phase after a notice: it loses one number, and then it gains one.
+#[tactic(auto, unfolding(model::specs::Phases::after))]
 pub fn after_notice(phase: u64, notice: &NoticeLine) -> u64
     ensures { result ≡ after notice.now phase }
 {

@@ -1,10 +1,9 @@
 // Why a move is refused.
 ghost use Rattle.std.specs.Prelude.{◌≡◌};
-ghost use Rattle.moves.specs.Refusals.{refusal_number, refusal_place};
 
 use text::refusal::LineRefusal;
 
-#[derive(Clone, Copy)]
+#[derive(Clone, Copy, PartialEq, Eq, Debug)]
 pub enum MoveRefusal {
     // the text is no order and no notice, or a number in it is above its limit
     Text(LineRefusal),
@@ -20,15 +19,25 @@ pub enum MoveRefusal {
     NoRoom,
 }
 
+impl From<LineRefusal> for MoveRefusal {
+    ghost use Rattle.moves.specs.declared.refusal.MoveRefusal.{MoveRefusal};
+
+    ghost from_gives = { λ line refusal. refusal ≡ MoveRefusal.Text line };
+
+    fn from(line: LineRefusal) -> MoveRefusal {
+        MoveRefusal::Text(line)
+    }
+}
+
 impl MoveRefusal {
+    ghost use Rattle.moves.specs.Refusals.{refusal_number, refusal_place};
+
     // The number that the refusal is told by.
     pub fn number(&self) -> u8
         ensures { result ≡ refusal_number self.now }
     {
         match self {
-            MoveRefusal::Text(LineRefusal::Syntax(_)) => 1,
-            MoveRefusal::Text(LineRefusal::TooLarge(_)) => 2,
-            MoveRefusal::Text(LineRefusal::NotRising(_)) => 5,
+            MoveRefusal::Text(refusal) => refusal.number(),
             MoveRefusal::NoPosition => 9,
             MoveRefusal::NotAccepted(_) => 6,
             MoveRefusal::NotInForce => 15,
@@ -42,9 +51,7 @@ impl MoveRefusal {
         ensures { result ≡ refusal_place self.now }
     {
         match self {
-            MoveRefusal::Text(LineRefusal::Syntax(place)) => *place,
-            MoveRefusal::Text(LineRefusal::TooLarge(place)) => *place,
-            MoveRefusal::Text(LineRefusal::NotRising(place)) => *place,
+            MoveRefusal::Text(refusal) => refusal.place(),
             MoveRefusal::NotAccepted(number) => usize::from(*number),
             MoveRefusal::NoPosition
             | MoveRefusal::NotInForce
