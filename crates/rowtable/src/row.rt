@@ -1,5 +1,5 @@
 // A state of a row. Any numbers can stand in it: a table may be anybody's.
-#[derive(Clone, Copy, PartialEq, Eq)]
+#[derive(Clone, Copy, Debug, PartialEq, Eq)]
 pub enum TableState {
     // a node of the watch
     Node(u8),
@@ -8,18 +8,19 @@ pub enum TableState {
 }
 
 // Why a row is there. Rows that it rests on are named by their places in the table.
-#[derive(Clone, Copy, PartialEq, Eq)]
+#[derive(Clone, Copy, Debug, PartialEq, Eq)]
 pub enum Reason {
     // a watch line or a link line
     Line,
     // the order with this number, and the rows by its wagons in their order; places that no wagon needs are 0
+    // (no `Option`: how many places count, the order's wagons say)
     Order(u8, usize, usize),
     // the notice with this number, and the row of the head after it
     Notice(u8, usize),
 }
 
 // A row with its grade. `rank` says as the how-manieth it was settled: a row rests only on rows of smaller rank.
-#[derive(Clone, Copy)]
+#[derive(Clone, Copy, Debug, PartialEq, Eq)]
 pub struct TableRow<G> {
     pub from: TableState,
     pub wagon: u8,
