@@ -1,6 +1,6 @@
 -- A line more in one of a book's tables: the table stays in order, and the line is put among the book's lines. Assumes nothing.
-use Rattle.std.proofs.Common.{◌≡◌, ℕ, ◌+◌, ◌-◌, ◌<◌, Bool, true, false, cond, leb, List, [], ◌∷◌, map, length, get_or, take, drop, set, replicate, None, Option, sym, refl, ap, ◌∙◌, subst, arith}
-use Rattle.std.proofs.lemmas.List.{length-map, length-take-le, take-append-drop, drop-drop, drop-replicate}
+use Rattle.std.proofs.Common.{◌≡◌, ℕ, ◌+◌, ◌-◌, ◌<◌, Bool, true, false, cond, leb, List, [], ◌∷◌, map, length, get_or, take, drop, set, replicate, is_some, Some, None, Option, sym, refl, ap, ◌∙◌, subst, arith}
+use Rattle.std.proofs.lemmas.List.{length-map, length-take-le, take-append-drop, drop-drop, drop-replicate, get_or_default}
 use Rattle.std.proofs.lemmas.Bool.{leb-false, true≢false}
 use Rattle.std.specs.List.{AllByRecursion}
 use Rattle.std.proofs.ByRecursion.{All-append, All-take, All-drop}
@@ -13,6 +13,7 @@ use Rattle.text.specs.declared.line.LinkLine.{LinkLine}
 use Rattle.text.specs.Numerals.{kept}
 use Rattle.text.specs.Meaning.{Within}
 use Rattle.text.specs.declared.line.Rule.{Rule}
+use Rattle.text.specs.declared.line.Rule.TheVariants.{Order, Notice}
 use Rattle.book.specs.declared.tables.Book.{Book}
 use Rattle.book.specs.Order.{Ascending, Tidy, among, put}
 use Rattle.book.specs.Ranks.{Kind, rules, opens, watches, links, ends, bares, kind, start, rank, phase_rank, watch_rank, link_rank}
@@ -52,6 +53,9 @@ module _ {b : Book} {k : Kind} {X : Type 0} (t : Rows b k X) where
       let few = t.tidy.1 in
       many_lines b k ∙ ap length t.lines_are ∙ length-map (take t.used t.rows) t.line ∙ length-take-le t.used t.rows (omega arith)
 
+  pub rows_up : Ascending t.low (take t.used t.rows)
+  rows_up = ascending_told t.low (take t.used t.rows) t.tidy.2
+
   -- where the kind is not full, a row is free
   pub rows_room : leb t.size (many k (lines b)) ≡ false → t.used < t.size
   rows_room room = let lt = leb-false t.size (many k (lines b)) room in let e = rows_many in omega arith
@@ -73,7 +77,7 @@ module _ {b : Book} {k : Kind} {X : Type 0} (t : Rows b k X) where
         let e : t.size - t.used - 1 ≡ t.size - (t.used + 1) = omega arith in (
           long ∙ t.tidy.0,
           omega arith,
-          ∣ subst (Ascending t.low) (sym placed) (put_ascending t.low x (take t.used t.rows) (ascending_told t.low (take t.used t.rows) t.tidy.2) (sym (rows_clash x w) ∙ new)) ∣₁,
+          ∣ subst (Ascending t.low) (sym placed) (put_ascending t.low x (take t.used t.rows) rows_up (sym (rows_clash x w) ∙ new)) ∣₁,
           rest ∙ sym (drop-drop 1 t.used t.rows) ∙ ap (drop 1) t.tidy.3 ∙ drop-replicate 1 (t.size - t.used) t.blank ∙ ap (λ m. replicate m t.blank) e,
         )
 
@@ -118,8 +122,16 @@ bare_put b p i is new =
     seat_put bare_line bares b b.bares false refl (bares_seated b) (line.Bare p) i refl tt (omega arith) (omega arith) new true
     (ap (λ u. line.Bare u ∷ []) (same_upto 15 (kept 15 i) p (kept_is 15 i (omega arith) ∙ is)))
 
-pub rule_clash : (b : Book) (l : Line) (i : ℕ) → kind l ≡ rules → Within l → rank l ≡ i → i < 64 → clashes (lines b) l ≡ filled (rule_line i (get_or b.rules i None))
-rule_clash b l i of w is lt = let long = b.numbered.0 in seat_clash rule_line rules b b.rules None refl (rules_seated b) l i of w (omega arith) (omega arith)
+is_filled : (i : ℕ) (r : Option Rule) → is_some r ≡ filled (rule_line i r)
+is_filled i None = refl
+is_filled i (Some (Order o)) = refl
+is_filled i (Some (Notice n)) = refl
+
+pub rule_stands : (b : Book) (l : Line) (i : ℕ) (d : Option Rule) → kind l ≡ rules → Within l → rank l ≡ i → i < 64 → is_some (get_or b.rules i d) ≡ clashes (lines b) l
+rule_stands b l i d of w is lt =
+    let long = b.numbered.0 in
+    ap is_some (get_or_default b.rules i d None (omega arith)) ∙ is_filled i (get_or b.rules i None)
+    ∙ sym (seat_clash rule_line rules b b.rules None refl (rules_seated b) l i of w (omega arith) (omega arith))
 
 flag : (l : Line) (t : Bool) → filled (cond t (l ∷ []) []) ≡ t
 flag l true = refl

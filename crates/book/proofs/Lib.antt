@@ -2,6 +2,7 @@ pub mod Ascent
 pub mod ByKind
 pub mod Seats
 pub mod Books
+pub mod Orders
 pub mod Turns
 pub mod Entries
 pub mod Barred

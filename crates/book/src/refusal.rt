@@ -1,10 +1,11 @@
 // Why a book refuses.
 ghost use Rattle.std.specs.Prelude.{◌≡◌};
+ghost use Rattle.book.specs.declared.refusal.Refusal.TheVariants.{Line};
 ghost use Rattle.book.specs.Refusals.{number_of, place_of};
 
 use text::refusal::LineRefusal;
 
-#[derive(Clone, Copy)]
+#[derive(Clone, Copy, PartialEq, Eq, Debug)]
 pub enum Refusal {
     // the text is no line within the limits
     Line(LineRefusal),
@@ -16,15 +17,21 @@ pub enum Refusal {
     NoRoom,
 }
 
+impl From<LineRefusal> for Refusal {
+    ghost from_gives = { λ refusal r. r ≡ Line refusal };
+
+    fn from(misread: LineRefusal) -> Refusal {
+        Refusal::Line(misread)
+    }
+}
+
 impl Refusal {
     // The number that the refusal is told by.
     pub fn number(&self) -> u8
         ensures { result ≡ number_of self.now }
     {
         match self {
-            Refusal::Line(LineRefusal::Syntax(_)) => 1,
-            Refusal::Line(LineRefusal::TooLarge(_)) => 2,
-            Refusal::Line(LineRefusal::NotRising(_)) => 5,
+            Refusal::Line(refusal) => refusal.number(),
             Refusal::Stands => 3,
             Refusal::Full => 4,
             Refusal::NoRoom => 17,
@@ -36,9 +43,7 @@ impl Refusal {
         ensures { result ≡ place_of self.now }
     {
         match self {
-            Refusal::Line(LineRefusal::Syntax(place)) => *place,
-            Refusal::Line(LineRefusal::TooLarge(place)) => *place,
-            Refusal::Line(LineRefusal::NotRising(place)) => *place,
+            Refusal::Line(refusal) => refusal.place(),
             Refusal::Stands | Refusal::Full | Refusal::NoRoom => 0,
         }
     }

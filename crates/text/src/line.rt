@@ -45,7 +45,7 @@ pub struct NoticeLine {
 }
 
 // The watch goes from a mode by a top wagon to a node.
-#[derive(Clone, Copy)]
+#[derive(Clone, Copy, PartialEq, Eq, PartialOrd, Ord, Debug)]
 pub struct WatchLine {
     pub mode: Mode,
     pub wagon: Wagon,
@@ -53,7 +53,7 @@ pub struct WatchLine {
 }
 
 // The watch goes on from a node by a wagon to a node.
-#[derive(Clone, Copy)]
+#[derive(Clone, Copy, PartialEq, Eq, PartialOrd, Ord, Debug)]
 pub struct LinkLine {
     pub node: Node,
     pub wagon: Wagon,

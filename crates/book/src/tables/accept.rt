@@ -1,15 +1,14 @@
 // Entering lines into a book.
-ghost use Rattle.std.specs.Prelude.{◌≡◌, ◌<◌, false, None, Ok, Err, MatchResult, slice_index_or};
+ghost use Rattle.std.specs.Prelude.{◌≡◌, false, Ok, Err, MatchResult};
 ghost use Rattle.text.specs.Meaning.{Within};
 ghost use Rattle.book.specs.Order.{put};
 ghost use Rattle.book.specs.Ranks.{rank};
-ghost use Rattle.book.specs.Tables.{rule_line, filled};
 ghost use Rattle.book.specs.Lines.{lines};
 ghost use Rattle.book.specs.Entering.{clashes, full, entered};
 ghost use Rattle.book.specs.Words.{Joins, Refused};
 
 use crate::refusal::Refusal;
-use crate::rows::{contains, place};
+use crate::rows::place;
 use crate::tables::Book;
 use text::line::{Line, Rule};
 use text::reader::read_line;
@@ -21,21 +20,14 @@ impl Book {
         ensures { result ≡ clashes (lines self.now) line.now }
     {
         match line {
-            Line::Order(o) => self.has_rule(o.number.get() as usize),
-            Line::Notice(n) => self.has_rule(n.number.get() as usize),
-            Line::Open(phase) => contains(self.opens_in_use(), phase),
-            Line::Watch(w) => contains(self.watches_in_use(), w),
-            Line::Link(k) => contains(self.links_in_use(), k),
-            Line::End(t) => self.ends[t.get() as usize],
-            Line::Bare(p) => self.bares[p.get() as usize],
+            Line::Order(o) => self.rules[usize::from(o.number)].is_some(),
+            Line::Notice(n) => self.rules[usize::from(n.number)].is_some(),
+            Line::Open(phase) => self.opens_in_use().contains(phase),
+            Line::Watch(w) => self.watches_in_use().contains(w),
+            Line::Link(k) => self.links_in_use().contains(k),
+            Line::End(t) => self.ends[usize::from(*t)],
+            Line::Bare(p) => self.bares[usize::from(*p)],
         }
-    }
-
-    fn has_rule(&self, number: usize) -> bool
-        requires { number < 64 }
-        ensures { result ≡ filled (rule_line number (slice_index_or self.now.rules number None)) }
-    {
-        self.rules[number].is_some()
     }
 
     // Whether as many lines of this kind stand as a book holds.
@@ -58,8 +50,8 @@ impl Book {
         ensures { lines self.new ≡ put rank line (lines self.old) }
     {
         match line {
-            Line::Order(o) => self.rules[o.number.get() as usize] = Some(Rule::Order(o)),
-            Line::Notice(n) => self.rules[n.number.get() as usize] = Some(Rule::Notice(n)),
+            Line::Order(o) => self.rules[usize::from(o.number)] = Some(Rule::Order(o)),
+            Line::Notice(n) => self.rules[usize::from(n.number)] = Some(Rule::Notice(n)),
             Line::Open(phase) => {
                 place(&mut self.opens, self.opening, phase);
                 self.opening += 1;
@@ -72,8 +64,8 @@ impl Book {
                 place(&mut self.links, self.linking, k);
                 self.linking += 1;
             }
-            Line::End(t) => self.ends[t.get() as usize] = true,
-            Line::Bare(p) => self.bares[p.get() as usize] = true,
+            Line::End(t) => self.ends[usize::from(t)] = true,
+            Line::Bare(p) => self.bares[usize::from(p)] = true,
         }
     }
 
@@ -86,10 +78,7 @@ impl Book {
             (λ _. Joins (lines self.old) text.now (lines self.new))
             (λ e. Refused (lines self.old) text.now e) }
     {
-        let line = match read_line(text) {
-            Ok(line) => line,
-            Err(refusal) => return Err(Refusal::Line(refusal)),
-        };
+        let line = read_line(text)?;
         if self.stands(&line) {
             return Err(Refusal::Stands);
         }

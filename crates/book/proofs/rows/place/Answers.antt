@@ -1,16 +1,27 @@
-use Rattle.std.proofs.Common.{take, ◌∙◌}
+use Rattle.std.proofs.Common.{◌≡◌, ◌≤◌, ltb, length, take, sym, ap, ◌∙◌, arith, rules}
 use native.Mathlib.Nat.{sub-zero}
-use Rattle.book.specs.Order.{lower}
-use Rattle.book.proofs.Turns.{placed_used, placed_rest}
+use Rattle.std.proofs.lemmas.List.{length-take-le}
+use Rattle.std.proofs.lemmas.List.Sorted.{IsPartitionPoint-from_clause, IsPartitionedBy-ltb}
+use Rattle.std.specs.Ordering.{is_lt}
+use Rattle.book.proofs.Orders.{lower_rank, rising}
+use Rattle.book.proofs.Turns.{put_at, placed_used, placed_rest}
 use Rattle.book.proofs.rows.place.Goals as goal
 
-pub returns : goal.returns
-returns g c =
-    let rank = g.T.Ranked.rank in
+pub returns-clause-used : goal.returns-clause-used
+returns-clause-used g c = λ rank told up.
+    let rows = c.args.rows.now in
+    let x = c.args.x in
+    let n = c.args.n in
+    let p = c.partition_point-p.result in
+    let few : p ≤ length (take n rows) = c.partition_point-p.ensures.bound in
+    let long = length-take-le n rows (omega arith) in
+    let point = IsPartitionPoint-from_clause (λ y. ltb (rank y) (rank x)) (take n rows) p c.partition_point-p.ensures.partitioned (IsPartitionedBy-ltb rank (take n rows) (rank x) (rising rank (take n rows) up)) (λ a r f' q. (let e = g.met.T.Ord.matches_partial_cmp in let t = told a.0.now x in let l = lower_rank (rank a.0.now) (rank x) in (search rules, search rules))) in
+    placed_used rows n p x c.requires (omega arith) c.rotate_right.new.self c.rotate_right.ensures.after ∙ sym (put_at rank x (take n rows) p few point)
+
+pub returns-clause-rest : goal.returns-clause-rest
+returns-clause-rest g c =
     let rows = c.args.rows.now in
     let n = c.args.n in
-    let at = c.position-p.ensures.count ∙ (λ i. lower rank (c.key.ensures i) (take (sub-zero n i) rows)) in
-    record {
-      used = placed_used rank rows n c.position-p.result c.args.x c.requires at c.rotate_right.new.self c.rotate_right.ensures.after;
-      rest = placed_rest rank rows n c.position-p.result c.args.x c.requires at c.rotate_right.new.self c.rotate_right.ensures.after;
-    }
+    let few = c.partition_point-p.ensures.bound in
+    let long = length-take-le n rows (omega arith) in
+    placed_rest rows n c.partition_point-p.result c.args.x c.requires (omega arith) c.rotate_right.new.self c.rotate_right.ensures.after
