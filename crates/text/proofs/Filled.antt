@@ -1,7 +1,7 @@
 -- What the reader makes of a text that has a form. Assumes nothing.
-use Rattle.std.proofs.Common.{◌≡◌, ℕ, zero, suc, ◌+◌, ◌*◌, ◌<◌, ◌≤◌, Bool, true, false, cond, not, ◌&&◌, eqb, ltb, ◌⊎◌, List, [], ◌∷◌, ◌++◌, length, Ok, Err, sym, refl, ap, ◌∙◌, inl, inr, ⊎_elim, arith}
+use Rattle.std.proofs.Common.{◌≡◌, ℕ, zero, suc, ◌+◌, ◌*◌, ◌<◌, ◌≤◌, Bool, true, false, cond, not, ◌&&◌, eqb, ltb, ◌⊎◌, List, [], ◌∷◌, ◌++◌, length, Option, Some, None, Ok, Err, sym, refl, ap, ◌∙◌, inl, inr, ⊎_elim, arith}
 use Rattle.std.proofs.lemmas.List.{append_assoc, length-append}
-use Rattle.std.proofs.lemmas.Bool.{false≢true, cond-true, cond-false, cond_both, cases_lt, eq-eqb, ne_eqb, eqb-false, and_parts, not-true}
+use Rattle.std.proofs.lemmas.Bool.{false≢true, cond-true, cond-false, cases_lt, eq-eqb, ne_eqb, eqb-false, and_parts, not-true}
 use Rattle.std.specs.List.{flat_map, AllByRecursion}
 use Rattle.grade.specs.declared.upto.UpTo.{UpTo}
 use Rattle.text.specs.declared.line.Line.{Line}
@@ -9,7 +9,7 @@ use Rattle.text.specs.declared.refusal.LineRefusal.TheVariants.{Syntax, TooLarge
 use Rattle.text.specs.Phases.{with_all}
 use Rattle.text.specs.Numerals.{digit, Numeral, value, starts, kept}
 use Rattle.text.specs.Forms.{Part, Values, word, number, wagons, rising}
-use Rattle.text.specs.Reading.{Outcome, Next, noted, take_word, take_number, take_numbers, wagons_of, values_of, many, scan}
+use Rattle.text.specs.Reading.{Outcome, Next, noted, take_word, take_number, take_numbers, wagons_of, values_of, many, settled, scan}
 use Rattle.text.specs.Meaning.{Filling, Proper, blank_digits, filled, Mark, list_marks, marks}
 use Rattle.text.proofs.Fillings.{kept_all, meant}
 use Rattle.text.proofs.Numbers.{Ended, numeral_some, number_taken}
@@ -44,10 +44,6 @@ parted (number most ∷ ps) = breaks ps && parted ps
 parted (wagons ∷ ps) = ends ps && parted ps
 parted (rising ∷ ps) = ends ps && parted ps
 
--- a line all of whose parts are read
-abbrev pub settled : Line → ℕ → ℕ → Outcome
-settled l over falls = cond (eqb over 0) (cond (eqb falls 0) (Ok l) (Err (NotRising falls))) (Err (TooLarge over))
-
 abbrev pub is_syntax : Outcome → Bool
 is_syntax (Ok l) = false
 is_syntax (Err (Syntax q)) = true
@@ -62,10 +58,10 @@ pub clear_from : (x : Outcome) → is_syntax x ≡ false → Clear x
 clear_from x h q e = false≢true (sym h ∙ ap is_syntax e)
 
 -- where the line may end, it is no longer a matter of syntax
-pub settled_clear : (l : Line) (over falls : ℕ) → Clear (settled l over falls)
-settled_clear l over falls =
-    let P : Outcome → Type 0 = λ x. is_syntax x ≡ false in
-    clear_from (settled l over falls) (cond_both (eqb over 0) _ _ P (λ y. cond_both (eqb falls 0) _ _ P (λ y. refl) (λ z. refl)) (λ z. refl))
+pub settled_clear : (l : Line) (over falls : Option ℕ) → Clear (settled l over falls)
+settled_clear l None None = clear_from (Ok l) refl
+settled_clear l None (Some q) = clear_from (Err (NotRising q)) refl
+settled_clear l (Some q) falls = clear_from (Err (TooLarge q)) refl
 
 abbrev pub above : Mark → Bool
 above m = ltb m.limit m.value
@@ -74,11 +70,11 @@ abbrev pub fell : Mark → Bool
 fell m = ltb m.value m.least
 
 -- the place noted, or else that of the first mark that passes
-abbrev pub first : (Mark → Bool) → ℕ → List Mark → ℕ
+abbrev pub first : (Mark → Bool) → Option ℕ → List Mark → Option ℕ
 first test place [] = place
 first test place (m ∷ ms) = first test (noted place m.place (test m)) ms
 
-pub first_append : (test : Mark → Bool) (place : ℕ) (ms ns : List Mark) → first test (first test place ms) ns ≡ first test place (ms ++ ns)
+pub first_append : (test : Mark → Bool) (place : Option ℕ) (ms ns : List Mark) → first test (first test place ms) ns ≡ first test place (ms ++ ns)
 first_append test place [] ns = refl
 first_append test place (m ∷ ms) ns = first_append test (noted place m.place (test m)) ms ns
 
@@ -97,7 +93,7 @@ kept_marks (number most ∷ ps) r p =
 kept_marks (wagons ∷ ps) r p = kept_list 31 false p 0 r.0 ++ kept_marks ps r.1 (p + length (flat_map blank_digits r.0))
 kept_marks (rising ∷ ps) r p = kept_list 63 true p 0 r.0 ++ kept_marks ps r.1 (p + length (flat_map blank_digits r.0))
 
-word_taken : (w s : List ℕ) (p over falls : ℕ) (next : Next) → take_word w (w ++ s) p over falls next ≡ next s (p + length w) over falls
+word_taken : (w s : List ℕ) (p : ℕ) (over falls : Option ℕ) (next : Next) → take_word w (w ++ s) p over falls next ≡ next s (p + length w) over falls
 word_taken [] s p over falls next = let same : p ≡ p + 0 = omega arith in ap (λ q. next s q over falls) same
 word_taken (c ∷ w) s p over falls next =
     let same : p + 1 + length w ≡ p + suc (length w) = omega arith in
@@ -107,14 +103,14 @@ list_ended : (ds : List ℕ) (dss : List (List ℕ)) (t : List ℕ) → starts t
 list_ended ds [] t e = inr e
 list_ended ds (ds' ∷ dss) t e = inr refl
 
-none_taken : (n most : ℕ) (rise : Bool) (least : ℕ) (t : List ℕ) (p over falls : ℕ) (next : List (UpTo most) → Next) → blank t ≡ false → take_numbers n most rise least t p over falls next ≡ next [] t p over falls
+none_taken : (n most : ℕ) (rise : Bool) (least : ℕ) (t : List ℕ) (p : ℕ) (over falls : Option ℕ) (next : List (UpTo most) → Next) → blank t ≡ false → take_numbers n most rise least t p over falls next ≡ next [] t p over falls
 none_taken zero most rise least t p over falls next e = refl
 none_taken (suc n) most rise least [] p over falls next e = refl
 none_taken (suc n) most rise least (b ∷ t) p over falls next e = cond-false (eqb b 32) _ _ e
 
 module _ (most : ℕ) (rise : Bool) (t : List ℕ) (no_digit : starts t ≡ false) where
   -- a list of numbers that is not too long is taken whole
-  numbers_taken : (n : ℕ) (dss : List (List ℕ)) → AllByRecursion Numeral dss → length dss ≤ n → blank t ≡ false → (least low p over falls : ℕ) (next : List (UpTo most) → Next) → take_numbers n most rise least (flat_map blank_digits dss ++ t) p over falls next ≡ next (kept_all most dss) t (p + length (flat_map blank_digits dss)) (first above over (list_marks most rise p low dss)) (first fell falls (kept_list most rise p least dss))
+  numbers_taken : (n : ℕ) (dss : List (List ℕ)) → AllByRecursion Numeral dss → length dss ≤ n → blank t ≡ false → (least low p : ℕ) (over falls : Option ℕ) (next : List (UpTo most) → Next) → take_numbers n most rise least (flat_map blank_digits dss ++ t) p over falls next ≡ next (kept_all most dss) t (p + length (flat_map blank_digits dss)) (first above over (list_marks most rise p low dss)) (first fell falls (kept_list most rise p least dss))
   numbers_taken n [] h le no_blank least low p over falls next =
       let same : p ≡ p + 0 = omega arith in
       none_taken n most rise least t p over falls next no_blank ∙ ap (λ q. next [] t q over falls) same
@@ -123,8 +119,8 @@ module _ (most : ℕ) (rise : Bool) (t : List ℕ) (no_digit : starts t ≡ fals
       let on : UpTo most → Next = λ x u q o f. take_numbers n most rise (cond rise (x.value + 1) 0) u q o f (λ xs. next (x ∷ xs)) in
       let x : UpTo most = kept most (value ds) in
       let u : List ℕ = flat_map blank_digits dss in
-      let o : ℕ = noted over (p + 1) (ltb most (value ds)) in
-      let f : ℕ = noted falls (p + 1) (ltb x.value least) in
+      let o : Option ℕ = noted over (p + 1) (ltb most (value ds)) in
+      let f : Option ℕ = noted falls (p + 1) (ltb x.value least) in
       let same : p + 1 + length ds + length u ≡ p + suc (length (ds ++ u)) = omega (arith, length-append ds u) in
       ap (λ l. take_number most least l (p + 1) over falls on) (append_assoc ds u t)
       ∙ number_taken most least ds (u ++ t) (p + 1) over falls on h.0 (list_ended ds dss t no_digit)
@@ -134,17 +130,17 @@ module _ (most : ℕ) (rise : Bool) (t : List ℕ) (no_digit : starts t ≡ fals
   -- of a longer list the reader leaves a blank and what stands behind it
   abbrev Leaves : ℕ → (List (UpTo most) → Next) → ℕ → Outcome → Type 0
   Leaves n next p x =
-      (xs : List (UpTo most)) × (u : List ℕ) × (q : ℕ) × (over : ℕ) × (falls : ℕ) × (p + 2 * n ≤ q) × (x ≡ next xs (32 ∷ u) q over falls)
+      (xs : List (UpTo most)) × (u : List ℕ) × (q : ℕ) × (over : Option ℕ) × (falls : Option ℕ) × (p + 2 * n ≤ q) × (x ≡ next xs (32 ∷ u) q over falls)
 
-  numbers_left : (n : ℕ) (dss : List (List ℕ)) → AllByRecursion Numeral dss → n < length dss → (least p over falls : ℕ) (next : List (UpTo most) → Next) → Leaves n next p (take_numbers n most rise least (flat_map blank_digits dss ++ t) p over falls next)
+  numbers_left : (n : ℕ) (dss : List (List ℕ)) → AllByRecursion Numeral dss → n < length dss → (least p : ℕ) (over falls : Option ℕ) (next : List (UpTo most) → Next) → Leaves n next p (take_numbers n most rise least (flat_map blank_digits dss ++ t) p over falls next)
   numbers_left n [] h lt least p over falls next = absurd (omega arith)
   numbers_left zero (ds ∷ dss) h lt least p over falls next = ([], ds ++ flat_map blank_digits dss ++ t, p, over, falls, omega arith, refl)
   numbers_left (suc n) (ds ∷ dss) h lt least p over falls next =
       let on : UpTo most → Next = λ x u q o f. take_numbers n most rise (cond rise (x.value + 1) 0) u q o f (λ xs. next (x ∷ xs)) in
       let x : UpTo most = kept most (value ds) in
       let u : List ℕ = flat_map blank_digits dss in
-      let o : ℕ = noted over (p + 1) (ltb most (value ds)) in
-      let f : ℕ = noted falls (p + 1) (ltb x.value least) in
+      let o : Option ℕ = noted over (p + 1) (ltb most (value ds)) in
+      let f : Option ℕ = noted falls (p + 1) (ltb x.value least) in
       let e =
       ap (λ l. take_number most least l (p + 1) over falls on) (append_assoc ds u t)
       ∙ number_taken most least ds (u ++ t) (p + 1) over falls on h.0 (list_ended ds dss t no_digit)
@@ -177,7 +173,7 @@ filled_breaks (number most ∷ ps) r a e = absurd (false≢true e)
 filled_breaks (wagons ∷ ps) r a e = list_starts r.0 (filled ps r.1) (filled_ends ps r.1 (and_parts (ends ps) (parted ps) a).0).0
 filled_breaks (rising ∷ ps) r a e = list_starts r.0 (filled ps r.1) (filled_ends ps r.1 (and_parts (ends ps) (parted ps) a).0).0
 
-blank_refused : (ps : List Part) (line : Values ps → Line) (u : List ℕ) (p over falls : ℕ) → ends ps ≡ true → scan ps line (32 ∷ u) p over falls ≡ Err (Syntax p)
+blank_refused : (ps : List Part) (line : Values ps → Line) (u : List ℕ) (p : ℕ) (over falls : Option ℕ) → ends ps ≡ true → scan ps line (32 ∷ u) p over falls ≡ Err (Syntax p)
 unfolding scan
 blank_refused [] line u p over falls e = absurd (false≢true e)
 blank_refused (word [] ∷ ps) line u p over falls e = absurd (false≢true e)
@@ -199,23 +195,23 @@ comes_from : (p q : ℕ) (x x' y y' : Outcome) → p ≤ q → x ≡ x' → y �
 comes_from p q x x' y y' le e f (inl h) = inl (h.0, omega arith, e ∙ h.2)
 comes_from p q x x' y y' le e f (inr h) = inr (e ∙ h ∙ f)
 
-module _ (ps : List Part) (line : Values ps → Line) (r : Filling ps) (p over falls : ℕ) where
+module _ (ps : List Part) (line : Values ps → Line) (r : Filling ps) (p : ℕ) (over falls : Option ℕ) where
   -- a text that has a form is read to its end, and the first places are noted
   abbrev pub TakenWhole : Type 0
   TakenWhole = Comes p (scan ps line (filled ps r) p over falls) (settled (line (meant ps r)) (first above over (marks ps r p)) (first fell falls (kept_marks ps r p)))
 
-module _ (ps : List Part) (closed : ends ps ≡ true) (n most : ℕ) (rise : Bool) {V : Type 0} (g : List (UpTo most) → V) (line : V × Values ps → Line) (dss : List (List ℕ)) (proper : AllByRecursion Numeral dss) (r : Filling ps) (p over falls : ℕ) where
+module _ (ps : List Part) (closed : ends ps ≡ true) (n most : ℕ) (rise : Bool) {V : Type 0} (g : List (UpTo most) → V) (line : V × Values ps → Line) (dss : List (List ℕ)) (proper : AllByRecursion Numeral dss) (r : Filling ps) (p : ℕ) (over falls : Option ℕ) where
   abbrev after : List (UpTo most) → Next
   after xs = scan ps (λ v. line (g xs, v))
 
   abbrev place : ℕ
   place = p + length (flat_map blank_digits dss)
 
-  list_filled : length dss ≤ n → ((l : Values ps → Line) (o f : ℕ) → TakenWhole ps l r place o f) → Comes p (take_numbers n most rise 0 (flat_map blank_digits dss ++ filled ps r) p over falls after) (settled (line (g (kept_all most dss), meant ps r)) (first above over (list_marks most rise p 0 dss ++ marks ps r place)) (first fell falls (kept_list most rise p 0 dss ++ kept_marks ps r place)))
+  list_filled : length dss ≤ n → ((l : Values ps → Line) (o f : Option ℕ) → TakenWhole ps l r place o f) → Comes p (take_numbers n most rise 0 (flat_map blank_digits dss ++ filled ps r) p over falls after) (settled (line (g (kept_all most dss), meant ps r)) (first above over (list_marks most rise p 0 dss ++ marks ps r place)) (first fell falls (kept_list most rise p 0 dss ++ kept_marks ps r place)))
   list_filled le ih =
       let c = filled_ends ps r closed in
-      let o : ℕ = first above over (list_marks most rise p 0 dss) in
-      let f : ℕ = first fell falls (kept_list most rise p 0 dss) in
+      let o : Option ℕ = first above over (list_marks most rise p 0 dss) in
+      let f : Option ℕ = first fell falls (kept_list most rise p 0 dss) in
       let eo = first_append above over (list_marks most rise p 0 dss) (marks ps r place) in
       let ef = first_append fell falls (kept_list most rise p 0 dss) (kept_marks ps r place) in
       comes_from p place _ _ _ _ (omega arith)
@@ -229,7 +225,7 @@ module _ (ps : List Part) (closed : ends ps ≡ true) (n most : ℕ) (rise : Boo
       let m = numbers_left most rise (filled ps r) c.0 n dss proper lt 0 p over falls after in
       (m.2, omega arith, m.6 ∙ blank_refused ps (λ v. line (g m.0, v)) m.1 m.2 m.3 m.4 closed)
 
-pub scan_filled : (ps : List Part) → parted ps ≡ true → (line : Values ps → Line) (r : Filling ps) → Proper ps r → (p over falls : ℕ) → TakenWhole ps line r p over falls
+pub scan_filled : (ps : List Part) → parted ps ≡ true → (line : Values ps → Line) (r : Filling ps) → Proper ps r → (p : ℕ) (over falls : Option ℕ) → TakenWhole ps line r p over falls
 unfolding scan
 scan_filled [] a line r h p over falls = inr refl
 scan_filled (word w ∷ ps) a line r h p over falls =

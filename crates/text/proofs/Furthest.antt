@@ -1,5 +1,5 @@
 -- What several forms make of a text together. Assumes nothing.
-use Rattle.std.proofs.Common.{◌≡◌, ℕ, zero, suc, ◌+◌, ◌-◌, ◌*◌, ◌≤◌, max, true, ◌⊎◌, List, [], ◌∷◌, ◌++◌, length, get_or, take, Ok, Err, sym, refl, ap, ◌∙◌, subst, inl, inr, ⊎_elim, arith}
+use Rattle.std.proofs.Common.{◌≡◌, ℕ, zero, suc, ◌+◌, ◌-◌, ◌*◌, ◌≤◌, max, true, ◌⊎◌, List, [], ◌∷◌, ◌++◌, length, get_or, take, Ok, Err, sym, refl, ap, ◌∙◌, subst, inl, inr, ⊎_elim, arith, None}
 use Rattle.std.proofs.lemmas.List.{length-take-le, get_or_append_left, take-append-le, take-take}
 use Rattle.std.proofs.lemmas.Bool.{cases_lt}
 use Rattle.std.proofs.ByRecursion.{all-has, All-weaker}
@@ -104,15 +104,15 @@ module _ (f : Form) (good : Good f) where
       ⊎_elim
       (λ h. subst (Stopped s) (same_place h.at q (sym h.is ∙ e)) (h.low, omega (arith, h.high), h.more, h.begins))
       (λ h. absurd (h.1 q e))
-      (scan_tells f.parts f.line s 1 0 0)
+      (scan_tells f.parts f.line s 1 None None)
 
   -- a text of the form is read to its end, or very far on
   comes : (s : List ℕ) (r : Filling f.parts) → Proper f.parts r → s ≡ filled f.parts r → Late 1 (by_form f s) ⊎ Verdict (f.line (meant f.parts r)) (marks f.parts r 1) (by_form f s)
   comes s r h is =
       ⊎_elim
       (λ (k, lt, y). inl (k, lt, ap (by_form f) is ∙ y))
-      (λ y. inr (verdict f.parts r 1 (f.line (meant f.parts r)) (by_form f s) (omega arith) (ap (by_form f) is ∙ y)))
-      (scan_filled f.parts good.0 f.line r h 1 0 0)
+      (λ y. inr (verdict f.parts r 1 (f.line (meant f.parts r)) (by_form f s) (ap (by_form f) is ∙ y)))
+      (scan_filled f.parts good.0 f.line r h 1 None None)
 
   near_clear : (s : List ℕ) (q : ℕ) → Of f.parts s → q ≤ 513 → by_form f s ≡ Err (Syntax q) → ⊥
   near_clear s q (r, (h, is)) le e =
@@ -135,7 +135,7 @@ module _ (f : Form) (good : Good f) where
   -- what it stops at stands before any text of the form goes on
   form_local : (s t : List ℕ) (q m : ℕ) → by_form f s ≡ Err (Syntax q) → q ≤ m → m ≤ length s → by_form f (take m s ++ t) ≡ Err (Syntax q)
   form_local s t q m e le lt =
-      let h = scan_local f.parts f.line s 1 0 0 q e in
+      let h = scan_local f.parts f.line s 1 None None q e in
       let k : suc (q - 1) ≡ q = omega (arith, h.0) in
       let l = length-take-le m s lt in
       let same : take q (take m s ++ t) ≡ take q s = take-append-le q (take m s) t (omega arith) ∙ take-take q m s le in
@@ -221,7 +221,7 @@ form_of f s c =
     ⊎_elim
     (λ h. absurd (c h.at h.is))
     (λ h. h.0)
-    (scan_tells f.parts f.line s 1 0 0)
+    (scan_tells f.parts f.line s 1 None None)
 
 -- a text of one of the forms is read by that form
 pub forms_own : (fs : List Form) → AllByRecursion Good fs → Apart fs → (s : List ℕ) → length s ≤ 512 → (f : Form) → Has fs f → Of f.parts s → by_forms fs s ≡ by_form f s

@@ -1,5 +1,5 @@
 -- A refusal of the syntax looks no further than its place. Assumes nothing.
-use Rattle.std.proofs.Common.{◌≡◌, ℕ, zero, suc, ◌+◌, ◌-◌, ◌≤◌, Bool, true, false, cond, eqb, ltb, List, [], ◌∷◌, ◌++◌, length, take, Err, sym, refl, ap, ◌∙◌, subst, inl, inr, ⊎_elim, arith}
+use Rattle.std.proofs.Common.{◌≡◌, ℕ, zero, suc, ◌+◌, ◌-◌, ◌≤◌, Bool, true, false, cond, eqb, ltb, List, [], ◌∷◌, ◌++◌, length, take, Err, sym, refl, ap, ◌∙◌, subst, inl, inr, ⊎_elim, arith, Option}
 use Rattle.std.proofs.lemmas.Bool.{cases_Bool, cond-true, cond-false}
 use Rattle.grade.specs.declared.upto.UpTo.{UpTo}
 use Rattle.text.specs.declared.line.Line.{Line}
@@ -46,7 +46,7 @@ abbrev pub LocalAt : (List ℕ → Outcome) → List ℕ → ℕ → ℕ → Typ
 LocalAt read s p q = (p ≤ q) × ((u : List ℕ) → take (suc (q - p)) u ≡ take (suc (q - p)) s → read u ≡ Err (Syntax q))
 
 abbrev pub Local : Next → Type 0
-Local next = (s : List ℕ) (p over falls q : ℕ) → next s p over falls ≡ Err (Syntax q) → LocalAt (λ u. next u p over falls) s p q
+Local next = (s : List ℕ) (p : ℕ) (over falls : Option ℕ) (q : ℕ) → next s p over falls ≡ Err (Syntax q) → LocalAt (λ u. next u p over falls) s p q
 
 -- what is local behind w is local from w on
 local_after : (read next : List ℕ → Outcome) (w s : List ℕ) (p q : ℕ) → ((t : List ℕ) → take (suc (q - (p + length w))) t ≡ take (suc (q - (p + length w))) s → read (w ++ t) ≡ next t) → LocalAt next s (p + length w) q → LocalAt read (w ++ s) p q
@@ -93,8 +93,8 @@ local_number most least next on s p over falls q e =
     let n = numbered s y in
     let ds = n.digits in
     let x : UpTo most = kept most (value ds) in
-    let o : ℕ = noted over p (ltb most (value ds)) in
-    let f : ℕ = noted falls p (ltb x.value least) in
+    let o : Option ℕ = noted over p (ltb most (value ds)) in
+    let f : Option ℕ = noted falls p (ltb x.value least) in
     let then : List ℕ → Outcome = λ u. next x u (p + length ds) o f in
     let to : (t : List ℕ) → Ended ds t → read (ds ++ t) ≡ then t = λ t d. number_taken most least ds t p over falls next n.proper d in
     let h : LocalAt then n.rest (p + length ds) q = on x n.rest (p + length ds) o f q (sym (to n.rest n.ended) ∙ ap read (sym n.is) ∙ e) in

@@ -1,5 +1,5 @@
 -- A number that stands at the front of a text, and how the reader takes it. Assumes nothing.
-use Rattle.std.proofs.Common.{◌≡◌, ℕ, suc, ◌+◌, ◌-◌, ◌*◌, ◌≤◌, true, false, cond, eqb, ltb, ◌⊎◌, List, [], ◌∷◌, ◌++◌, length, Err, sym, refl, ap, ◌∙◌, inl, inr, ⊎_elim, arith}
+use Rattle.std.proofs.Common.{◌≡◌, ℕ, suc, ◌+◌, ◌-◌, ◌*◌, ◌≤◌, true, false, cond, eqb, ltb, ◌⊎◌, List, [], ◌∷◌, ◌++◌, length, Err, sym, refl, ap, ◌∙◌, inl, inr, ⊎_elim, arith, Option}
 use Rattle.std.proofs.lemmas.Bool.{cond-true, cond-false, cases_Bool, cases_eq, ne_eqb}
 use Rattle.text.specs.declared.refusal.LineRefusal.TheVariants.{Syntax}
 use Rattle.grade.specs.declared.upto.UpTo.{UpTo}
@@ -41,7 +41,7 @@ pub numeral_some : (ds : List ℕ) → Numeral ds → 1 ≤ length ds
 numeral_some [] h = absurd h
 numeral_some (b ∷ ds) h = omega arith
 
-module _ (most least : ℕ) (ds t : List ℕ) (p over falls : ℕ) (next : UpTo most → Next) where
+module _ (most least : ℕ) (ds t : List ℕ) (p : ℕ) (over falls : Option ℕ) (next : UpTo most → Next) where
   -- the reader goes on behind the number
   pub number_taken : Numeral ds → Ended ds t → take_number most least (ds ++ t) p over falls next ≡ next (kept most (value ds)) t (p + length ds) (noted over p (ltb most (value ds))) (noted falls p (ltb (kept most (value ds)).value least))
   number_taken h e =
@@ -78,5 +78,5 @@ numbered (b ∷ s) e =
     (cases_eq b 48)
 
 -- where no number begins, the reader stops
-pub number_refused : (most least : ℕ) (s : List ℕ) (p over falls : ℕ) (next : UpTo most → Next) → starts s ≡ false → take_number most least s p over falls next ≡ Err (Syntax p)
+pub number_refused : (most least : ℕ) (s : List ℕ) (p : ℕ) (over falls : Option ℕ) (next : UpTo most → Next) → starts s ≡ false → take_number most least s p over falls next ≡ Err (Syntax p)
 number_refused most least s p over falls next e = cond-false (starts s) _ _ e

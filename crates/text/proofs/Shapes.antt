@@ -1,5 +1,5 @@
 -- A text that the reader takes to its end has the form; one that it stops at begins the form. Assumes nothing.
-use Rattle.std.proofs.Common.{◌≡◌, ℕ, zero, suc, ◌+◌, ◌-◌, ◌≤◌, Bool, true, false, cond, eqb, ◌⊎◌, List, [], ◌∷◌, ◌++◌, length, take, Err, sym, refl, ap, ◌∙◌, subst, inl, inr, ⊎_elim, arith}
+use Rattle.std.proofs.Common.{◌≡◌, ℕ, zero, suc, ◌+◌, ◌-◌, ◌≤◌, Bool, true, false, cond, eqb, ◌⊎◌, List, [], ◌∷◌, ◌++◌, length, take, Err, sym, refl, ap, ◌∙◌, subst, inl, inr, ⊎_elim, arith, Option}
 use Rattle.std.proofs.lemmas.List.{append_assoc, length-append}
 use Rattle.std.proofs.lemmas.Bool.{cases_Bool, cond_both, eqb-true}
 use Rattle.std.specs.List.{flat_map, AllByRecursion}
@@ -76,7 +76,7 @@ abbrev Lists : ℕ → Texts → Texts
 Lists n L s = (dss : List (List ℕ)) × AllByRecursion Numeral dss × (length dss ≤ n) × (t : List ℕ) × L t × (s ≡ flat_map blank_digits dss ++ t)
 
 abbrev Told : Texts → Next → Type 0
-Told L next = (s : List ℕ) (p over falls : ℕ) → Tells L s p (next s p over falls)
+Told L next = (s : List ℕ) (p : ℕ) (over falls : Option ℕ) → Tells L s p (next s p over falls)
 
 module _ (L : Texts) (some : Some L) where
   told_word : (next : Next) → Told L next → (w : List ℕ) → Told (Worded w L) (λ s p o f. take_word w s p o f next)

@@ -1,5 +1,7 @@
 -- What a line of text says, worked out from its first byte on.
-use Rattle.std.specs.Prelude.{ℕ, zero, suc, ◌+◌, max, Bool, true, false, cond, List, [], ◌∷◌, map, length, Ok, Err, Result, ◌==◌, nat_lt}
+use Rattle.std.specs.Prelude.{ℕ, zero, suc, ◌+◌, max, Bool, true, false, cond, List, [], ◌∷◌, map, length, Some, None, Option, Ok, Err, Result, ◌==◌, nat_lt}
+use Rattle.std.specs.Bool.{then_some}
+use Rattle.std.specs.Option.{option_or}
 use Rattle.grade.specs.declared.upto.UpTo.{UpTo}
 use Rattle.text.specs.declared.line.Line.{Line}
 use Rattle.text.specs.declared.line.Line.TheVariants.{Order, Notice, Open, Watch, Link, End, Bare}
@@ -17,28 +19,28 @@ abbrev pub Outcome : Type 0
 Outcome = Result Line LineRefusal
 
 -- what follows a part: the text behind it, its place, and the places of the first number above its limit and of the first
--- that does not rise, 0 for none
+-- that does not rise, where there is one
 abbrev pub Next : Type 0
-Next = List ℕ → ℕ → ℕ → ℕ → Outcome
+Next = List ℕ → ℕ → Option ℕ → Option ℕ → Outcome
 
 -- the first place that was noted stays
-abbrev pub noted : ℕ → ℕ → Bool → ℕ
-noted place here now = cond (place == 0) (cond now here 0) place
+abbrev pub noted : Option ℕ → ℕ → Bool → Option ℕ
+noted place here now = option_or place (then_some now here)
 
-abbrev pub take_word : List ℕ → List ℕ → ℕ → ℕ → ℕ → Next → Outcome
+abbrev pub take_word : List ℕ → List ℕ → ℕ → Option ℕ → Option ℕ → Next → Outcome
 take_word [] s p over falls next = next s p over falls
 take_word (c ∷ w) [] p over falls next = Err (Syntax p)
 take_word (c ∷ w) (b ∷ s) p over falls next = cond (b == c) (take_word w s (p + 1) over falls next) (Err (Syntax p))
 
 -- a number up to `most`, which does not rise where it is below `least`
-abbrev pub take_number : (most least : ℕ) → List ℕ → ℕ → ℕ → ℕ → (UpTo most → Next) → Outcome
+abbrev pub take_number : (most least : ℕ) → List ℕ → ℕ → Option ℕ → Option ℕ → (UpTo most → Next) → Outcome
 take_number most least s p over falls next =
     let n : Taken = numeral p s in
     let x : UpTo most = kept most n.value in
     cond (starts s) (next x n.rest n.place (noted over p (nat_lt most n.value)) (noted falls p (nat_lt x.value least))) (Err (Syntax p))
 
 -- at most n numbers, a blank before each; where they are to rise, the next is at least `least`
-abbrev pub take_numbers : ℕ → (most : ℕ) → Bool → ℕ → List ℕ → ℕ → ℕ → ℕ → (List (UpTo most) → Next) → Outcome
+abbrev pub take_numbers : ℕ → (most : ℕ) → Bool → ℕ → List ℕ → ℕ → Option ℕ → Option ℕ → (List (UpTo most) → Next) → Outcome
 take_numbers zero most rise least s p over falls next = next [] s p over falls
 take_numbers (suc n) most rise least [] p over falls next = next [] [] p over falls
 take_numbers (suc n) most rise least (b ∷ s) p over falls next =
@@ -60,8 +62,14 @@ values_of xs = map (λ x. x.value) xs
 abbrev pub many : ℕ
 many = 512
 
+-- where all parts are read: a number above its limit is refused before one that does not rise
+abbrev pub settled : Line → Option ℕ → Option ℕ → Outcome
+settled l None None = Ok l
+settled l None (Some q) = Err (NotRising q)
+settled l (Some q) falls = Err (TooLarge q)
+
 unfoldable pub scan : (ps : List Part) → (Values ps → Line) → Next
-scan [] line [] p over falls = cond (over == 0) (cond (falls == 0) (Ok (line tt)) (Err (NotRising falls))) (Err (TooLarge over))
+scan [] line [] p over falls = settled (line tt) over falls
 scan [] line (b ∷ s) p over falls = Err (Syntax p)
 scan (word w ∷ ps) line s p over falls = take_word w s p over falls (scan ps line)
 scan (number most ∷ ps) line s p over falls = take_number most 0 s p over falls (λ x. scan ps (λ v. line (x, v)))
@@ -72,7 +80,7 @@ scan (rising ∷ ps) line s p over falls =
 
 -- what one form makes of a text
 abbrev pub by_form : Form → List ℕ → Outcome
-by_form f s = scan f.parts f.line s 1 0 0
+by_form f s = scan f.parts f.line s 1 None None
 
 -- of two outcomes the one that came further
 abbrev pub further : Outcome → Outcome → Outcome

@@ -1,9 +1,10 @@
 -- What is left to read of a line, as a reader has it.
-use Rattle.std.specs.Prelude.{◌≡◌, ℕ, ◌+◌, min, max, Bool, true, cond, List, [], ◌∷◌, ◌++◌, Some, None, codes, Option, ◌==◌, ◌≢◌}
-use Rattle.std.specs.Borrow.{Bor}
+use Rattle.std.specs.Prelude.{◌≡◌, ℕ, ◌+◌, min, Bool, true, cond, List, [], ◌∷◌, ◌++◌, length, Some, None, Option, ◌≢◌}
 use Rattle.grade.specs.declared.upto.UpTo.{UpTo}
 use Rattle.text.specs.declared.line.Line.{Line}
+use Rattle.text.specs.declared.form_name.FormName.{FormName}
 use Rattle.text.specs.declared.line_reader.LineReader.{LineReader}
+use Rattle.text.specs.Names.{name}
 use Rattle.text.specs.Numerals.{digits, numeral, starts}
 use Rattle.text.specs.Forms.{Part, Values}
 use Rattle.text.specs.Reading.{Outcome, Next, scan, take_word, take_number, take_numbers}
@@ -51,22 +52,25 @@ pub record NumberOff (before after : LineReader) (n : ℕ) : Type 0 where
   pub over : after.over ≡ before.over
   pub falls : after.falls ≡ before.falls
 
+-- the bytes w were taken off the line
+pub record Off (w : List ℕ) (before after : LineReader) : Type 0 where
+  pub rest : before.rest.now ≡ w ++ after.rest.now
+  pub place : after.place ≡ before.place + length w
+  pub over : after.over ≡ before.over
+  pub falls : after.falls ≡ before.falls
+
 -- s does not begin with w
 abbrev pub Lacks : List ℕ → List ℕ → Type 0
 Lacks w s = (t : List ℕ) → s ≢ w ++ t
 
--- the rest r of a line s behind w, where s begins with w
-abbrev pub Behind : List ℕ → List ℕ → Option (Bor (List ℕ)) → Type 0
-Behind w s None = Lacks w s
-Behind w s (Some r) = s ≡ w ++ r.now
+-- a name was taken off the line, or it begins with none
+abbrev pub NameOff : LineReader → LineReader → Option FormName → Type 0
+NameOff before after None = (f : FormName) → Lacks (name f) before.rest.now
+NameOff before after (Some f) = Off (name f) before after
 
--- how many bytes w and s have in common from the front
-abbrev pub agree : List ℕ → List ℕ → ℕ
-agree [] s = 0
-agree (a ∷ w) [] = 0
-agree (a ∷ w) (b ∷ s) = cond (a == b) (1 + agree w s) 0
-
--- the most that a form's name has in common with s
-abbrev pub furthest : List ℕ → ℕ
-furthest s =
-    max (max (max (max (max (max (agree (codes "(order ") s) (agree (codes "(notice ") s)) (agree (codes "(open") s)) (agree (codes "(watch ") s)) (agree (codes "(link ") s)) (agree (codes "(end ") s)) (agree (codes "(bare ") s)
+-- nothing is read yet of the line s
+pub record Unread (s : List ℕ) (r : LineReader) : Type 0 where
+  pub rest : r.rest.now ≡ s
+  pub place : r.place ≡ 1
+  pub over : r.over ≡ None
+  pub falls : r.falls ≡ None

@@ -2,6 +2,7 @@
 
 #![tactic(auto)]
 
+mod form_name;
 pub mod line;
 mod line_reader;
 pub mod phase;

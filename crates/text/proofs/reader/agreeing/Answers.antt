@@ -1,17 +1,24 @@
-use Rattle.std.proofs.Common.{arith}
-use Rattle.text.proofs.Names.{agree_more, agree_apart, agree_all, agree_short}
+use Rattle.std.proofs.Common.{◌≡◌, ℕ, ◌+◌, Bool, cond, eqb, List, [], ◌∷◌, refl, ap, ◌∙◌, rules, tests}
+use Rattle.std.specs.List.{zip, prefix_len}
+use Rattle.std.proofs.lemmas.Iterator.{YieldsList-from_slice, YieldsList-from_zip}
+use Rattle.std.proofs.lemmas.Iterator.Search.{YieldsList-from_take_while}
+use Rattle.std.proofs.lemmas.Iterator.Consumers.{YieldsList-at, count_from_yields_List}
+use Rattle.std.proofs.lemmas.List.Folds.{length-prefix_len}
+use Rattle.text.specs.Names.{agree}
 use Rattle.text.proofs.reader.agreeing.Goals as goal
 
-pub loop-n-preserved : goal.loop-n-preserved
-loop-n-preserved c =
-    let e = agree_more c.args.word.now c.args.line.now c.loop-n.n (omega arith) (omega arith) (omega arith) in
-    (omega arith, omega arith, omega arith)
+abbrev alike : ℕ × ℕ → Bool
+alike p = eqb p.0 p.1
 
-pub returns-else-word-n : goal.returns-else-word-n
-returns-else-word-n c = let e = agree_apart c.args.word.now c.args.line.now c.loop-n.n (omega arith) (omega arith) (λ x. omega arith) in omega arith
+alike-zip : (w s : List ℕ) → prefix_len alike (zip w s) ≡ agree w s
+alike-zip [] s = refl
+alike-zip (a ∷ w) [] = refl
+alike-zip (a ∷ w) (b ∷ s) = ap (λ n. cond (eqb a b) (1 + n) 0) (alike-zip w s)
 
-pub returns-else-n-line : goal.returns-else-n-line
-returns-else-n-line c = let e = agree_short c.args.word.now c.args.line.now c.loop-n.n (omega arith) in omega arith
-
-pub returns-after-loop-n : goal.returns-after-loop-n
-returns-after-loop-n c = let e = agree_all c.args.word.now c.args.line.now c.loop-n.n (omega arith) in omega arith
+pub returns : goal.returns
+returns c =
+    let w = c.args.word.now in
+    let s = c.args.line.now in
+    let pairs = YieldsList-at c.take_while.ensures.source (YieldsList-from_zip (YieldsList-from_slice w (search rules)) (YieldsList-from_slice s (search rules))) in
+    count_from_yields_List c.take_while.result _ c.count.ensures.ran (YieldsList-from_take_while _ alike pairs c.take_while.ensures.closure c.take_while.ensures.done (λ x b q k. search (rules, tests)))
+    ∙ length-prefix_len alike (zip w s) ∙ alike-zip w s

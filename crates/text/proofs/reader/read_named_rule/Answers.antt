@@ -1,26 +1,36 @@
-use Rattle.std.proofs.Common.{ℕ, Err, sym, ap, ◌∙◌}
+use Rattle.std.proofs.Common.{ℕ, rules, Err, sym, ap, ◌∙◌}
 use Rattle.std.proofs.lemmas.Result.{err_from_is_err_and}
 use Rattle.text.specs.declared.refusal.LineRefusal.TheVariants.{Syntax}
-use Rattle.text.proofs.Named.{read_rule_order, read_rule_notice, read_no_rule}
+use Rattle.text.specs.Names.{name}
+use Rattle.text.specs.Steps.{Lacks}
+use Rattle.text.proofs.Named.{read_rule_order, read_rule_notice, no_name, no_rule_named, read_no_rule}
+use Rattle.text.specs.declared.form_name.FormName.TheVariants as n
 use Rattle.text.proofs.reader.read_named_rule.Goals as goal
+use Rattle.text.proofs.reader.read_named_rule.Goals.{in_default-via-in-Some+in_default, in_default-via-in_default}
 
-pub returns-in_err-order : goal.returns-in_err-order
-returns-in_err-order c =
+pub returns-in_err-order-in-Some-Order : goal.returns-in_err-order-in-Some-Order
+returns-in_err-order-in-Some-Order c =
     let x = err_from_is_err_and c.from_residual.result c.from_residual.ensures.1 in
-    rw x.1 (ap Err x.2 ∙ sym (read_rule_order _ _ c.if-line-gt512.false c.in-Some.ensures ∙ c.in_err-order.ensures))
+    rw x.1 (ap Err x.2 ∙ sym (read_rule_order _ _ _ c.if-line-gt512.false c.new-reader.ensures (rw c.in-Some-Order.field-0-is at c.in-Some-Order.ensures) ∙ c.in_err-order-in-Some-Order.ensures))
 
-pub returns-in-Some : goal.returns-in-Some
-returns-in-Some c = sym (read_rule_order _ _ c.if-line-gt512.false c.in-Some.ensures ∙ c.in_ok-order.ensures)
+pub returns-in_ok-order-in-Some-Order : goal.returns-in_ok-order-in-Some-Order
+returns-in_ok-order-in-Some-Order c = sym (read_rule_order _ _ _ c.if-line-gt512.false c.new-reader.ensures (rw c.in-Some-Order.field-0-is at c.in-Some-Order.ensures) ∙ c.in_ok-order-in-Some-Order.ensures)
 
-pub returns-in_err-notice : goal.returns-in_err-notice
-returns-in_err-notice c =
-    let x = err_from_is_err_and c.from_residual-in_err-notice.result c.from_residual-in_err-notice.ensures.1 in
-    rw x.1 (ap Err x.2 ∙ sym (read_rule_notice _ _ c.if-line-gt512.false c.in-Some-after_notice.ensures ∙ c.in_err-notice.ensures))
+pub returns-in_err-notice-in-Some-Notice : goal.returns-in_err-notice-in-Some-Notice
+returns-in_err-notice-in-Some-Notice c =
+    let x = err_from_is_err_and c.from_residual-in_err-notice-in-Some-Notice.result c.from_residual-in_err-notice-in-Some-Notice.ensures.1 in
+    rw x.1 (ap Err x.2 ∙ sym (read_rule_notice _ _ _ c.if-line-gt512.false c.new-reader.ensures (rw c.in-Some-Notice.field-0-is at c.in-Some-Notice.ensures) ∙ c.in_err-notice-in-Some-Notice.ensures))
 
-pub returns-in-Some-after_notice : goal.returns-in-Some-after_notice
-returns-in-Some-after_notice c = sym (read_rule_notice _ _ c.if-line-gt512.false c.in-Some-after_notice.ensures ∙ c.in_ok-notice.ensures)
+pub returns-in_ok-notice-in-Some-Notice : goal.returns-in_ok-notice-in-Some-Notice
+returns-in_ok-notice-in-Some-Notice c = sym (read_rule_notice _ _ _ c.if-line-gt512.false c.new-reader.ensures (rw c.in-Some-Notice.field-0-is at c.in-Some-Notice.ensures) ∙ c.in_ok-notice-in-Some-Notice.ensures)
 
-pub returns : goal.returns
-returns c =
-    ap (λ (n : ℕ). Err (Syntax n)) c.unnamed_rule.ensures
-    ∙ sym (read_no_rule c.args.line.now c.if-line-gt512.false c.in_default.ensures c.in_default-after_notice.ensures)
+pub returns-in_default : goal.returns-in_default
+returns-in_default c =
+    let s = c.args.line.now in
+    let new = c.new-reader.ensures in
+    let (order, notice) =
+    elim c.in_default.branch as (λ _. Lacks (name n.Order) s × Lacks (name n.Notice) s) [
+      | in_default-via-in-Some+in_default w ↦ no_rule_named s _ _ _ w.in_default.field-0 new c.name.ensures w.in_default.is (λ e. search rules) (λ e. search rules)
+      | in_default-via-in_default w ↦ let none = no_name s _ _ _ new c.name.ensures w.in_default.is in (none n.Order, none n.Notice)
+    ] in
+    ap (λ (n : ℕ). Err (Syntax n)) c.unnamed.ensures ∙ sym (read_no_rule s c.if-line-gt512.false order notice)

@@ -6,13 +6,13 @@ pub returns-then-not-is_empty : goal.returns-then-not-is_empty
 unfolding scan
 returns-then-not-is_empty c = search rules
 
-pub returns-then-self-ne0 : goal.returns-then-self-ne0
+pub returns-in-Some : goal.returns-in-Some
 unfolding scan
-returns-then-self-ne0 c = search rules
+returns-in-Some c = search rules
 
-pub returns-then-self-ne0-2 : goal.returns-then-self-ne0-2
+pub returns-in-Some-falls : goal.returns-in-Some-falls
 unfolding scan
-returns-then-self-ne0-2 c = search rules
+returns-in-Some-falls c = search rules
 
 pub returns : goal.returns
 unfolding scan

@@ -1,6 +1,0 @@
-use Rattle.std.proofs.Common.{codes, rules}
-use Rattle.text.proofs.Steps.{lead}
-use Rattle.text.proofs.reader.after_open.Goals as goal
-
-pub returns-in-40 : goal.returns-in-40
-returns-in-40 c = lead (codes "(open") c.args.line.now (search rules) (search rules)
