@@ -1,5 +1,5 @@
 -- What a reader has taken off its line. Assumes nothing.
-use Rattle.std.proofs.Common.{◌≡◌, ℕ, suc, ◌+◌, ◌-◌, ◌*◌, ◌<◌, ◌≤◌, min, Bool, true, false, cond, eqb, ltb, List, [], ◌∷◌, length, get_or, Err, Option, sym, refl, ap, ◌∙◌, inl, inr, arith}
+use Rattle.std.proofs.Common.{◌≡◌, ℕ, suc, ◌+◌, ◌-◌, ◌*◌, ◌<◌, ◌≤◌, min, Bool, true, cond, eqb, ltb, List, [], ◌∷◌, length, get_or, Err, Option, sym, refl, ap, ◌∙◌, inl, inr, arith}
 use Rattle.std.proofs.lemmas.Bool.{lt-ltb, le-ltb, ltb-true, ltb-false, eq-eqb, ne_eqb, false≢true, cond-true, cond-false, cond_both, cases_Bool}
 use Rattle.grade.specs.declared.upto.UpTo.{UpTo}
 use Rattle.grade.specs.ValuesLemmas.{same_upto}
@@ -66,9 +66,6 @@ byte_fails b w (c ∷ s) p over falls next other =
 
 pub word_off : (b : ℕ) (w : List ℕ) (before : LineReader) (next : Next) → Lacks (b ∷ []) before.rest.now → word_then (b ∷ w) before next ≡ Err (Syntax before.place)
 word_off b w before next other = byte_fails b w before.rest.now before.place before.over before.falls next other
-
-pub no_number : (before : LineReader) (most least : ℕ) (next : UpTo most → Next) → starts before.rest.now ≡ false → number_then most least before next ≡ Err (Syntax before.place)
-no_number before most least next e = cond-false (starts before.rest.now) _ _ e
 
 same_test : (limit v n : ℕ) → limit < 65536 → n ≡ min v 65536 → ltb limit v ≡ ltb limit n
 same_test limit v n small e =

@@ -45,18 +45,7 @@ fn read_named(line: &[u8]) -> Result<Line, LineRefusal>
         Some(FormName::Link) => reader.link(),
         Some(FormName::End) => reader.end_node(),
         Some(FormName::Bare) => reader.bare(),
-        None => Err(LineRefusal::Syntax(unnamed(
-            line,
-            &[
-                FormName::Order,
-                FormName::Notice,
-                FormName::Open,
-                FormName::Watch,
-                FormName::Link,
-                FormName::End,
-                FormName::Bare,
-            ],
-        ))),
+        None => Err(LineRefusal::Syntax(unnamed(line, &FormName::ALL))),
     }
 }
 
@@ -71,7 +60,7 @@ fn read_named_rule(line: &[u8]) -> Result<Rule, LineRefusal>
     match reader.name() {
         Some(FormName::Order) => Ok(Rule::Order(reader.order()?)),
         Some(FormName::Notice) => Ok(Rule::Notice(reader.notice()?)),
-        _ => Err(LineRefusal::Syntax(unnamed(line, &[FormName::Order, FormName::Notice]))),
+        _ => Err(LineRefusal::Syntax(unnamed(line, &FormName::RULES))),
     }
 }
 

@@ -20,5 +20,6 @@ returns c =
     let w = c.args.word.now in
     let s = c.args.line.now in
     let pairs = YieldsList-at c.take_while.ensures.source (YieldsList-from_zip (YieldsList-from_slice w (search rules)) (YieldsList-from_slice s (search rules))) in
-    count_from_yields_List c.take_while.result _ c.count.ensures.ran (YieldsList-from_take_while _ alike pairs c.take_while.ensures.closure c.take_while.ensures.done (λ x b q k. search (rules, tests)))
+    count_from_yields_List c.take_while.result _ c.count.ensures.ran
+    (YieldsList-from_take_while _ alike pairs c.take_while.ensures.closure c.take_while.ensures.done (λ x b q k. search (rules, tests)))
     ∙ length-prefix_len alike (zip w s) ∙ alike-zip w s
