@@ -15,7 +15,7 @@ pub type Number = UpTo<63>;
 pub type Node = UpTo<63>;
 
 // The wagons that an order sets down, the first on top.
-#[derive(Clone, Copy)]
+#[derive(Clone, Copy, Debug, PartialEq, Eq)]
 pub enum Wagons {
     Zero,
     One(Wagon),
@@ -23,7 +23,7 @@ pub enum Wagons {
 }
 
 // In `mode` with `wagon` on top: `wagons` take its place, and the mode becomes `to`.
-#[derive(Clone, Copy)]
+#[derive(Clone, Copy, Debug, PartialEq, Eq)]
 pub struct OrderLine {
     pub number: Number,
     pub mode: Mode,
@@ -34,7 +34,7 @@ pub struct OrderLine {
 }
 
 // In `mode`: the phase loses `loses` and gains `gains`, and the mode becomes `to`.
-#[derive(Clone, Copy)]
+#[derive(Clone, Copy, Debug, PartialEq, Eq)]
 pub struct NoticeLine {
     pub number: Number,
     pub mode: Mode,
@@ -61,13 +61,13 @@ pub struct LinkLine {
 }
 
 // An order or a notice: what can be carried out.
-#[derive(Clone, Copy)]
+#[derive(Clone, Copy, Debug, PartialEq, Eq)]
 pub enum Rule {
     Order(OrderLine),
     Notice(NoticeLine),
 }
 
-#[derive(Clone, Copy)]
+#[derive(Clone, Copy, Debug, PartialEq, Eq)]
 pub enum Line {
     Order(OrderLine),
     Notice(NoticeLine),
