@@ -2,12 +2,12 @@ pub mod Ascent
 pub mod ByKind
 pub mod Seats
 pub mod Books
+pub mod Walk
 pub mod Orders
 pub mod Turns
 pub mod Entries
 pub mod Barred
 pub mod Joining
-pub mod Places
 pub mod Written
 pub mod Back
 pub mod Told

@@ -9,6 +9,7 @@ use Rattle.text.specs.declared.line.LinkLine.{LinkLine}
 use Rattle.text.specs.declared.line.Rule.{Rule}
 use Rattle.text.specs.declared.line.Rule.TheVariants.{Order, Notice}
 use Rattle.text.specs.Numerals.{kept}
+use Rattle.text.specs.Reading.{rule_line as as_line}
 
 -- the number of a blank row
 abbrev pub nought : (max : ℕ) → UpTo max
@@ -35,15 +36,17 @@ Along P k (x ∷ xs) = P k x × Along P (k + 1) xs
 -- the line, if any, at a place k of a table in which places go by number
 abbrev pub rule_line : ℕ → Option Rule → List Line
 rule_line k None = []
-rule_line k (Some (Order o)) = line.Order o ∷ []
-rule_line k (Some (Notice n)) = line.Notice n ∷ []
+rule_line k (Some r) = as_line r ∷ []
 
 -- a place that is set stands for the line with the place's number, which is within its limit
+abbrev pub mark_line : (max : ℕ) → (UpTo max → Line) → ℕ → Bool → List Line
+mark_line max line k set = cond set (line (kept max k) ∷ []) []
+
 abbrev pub end_line : ℕ → Bool → List Line
-end_line k set = cond set (line.End (kept 63 k) ∷ []) []
+end_line k set = mark_line 63 line.End k set
 
 abbrev pub bare_line : ℕ → Bool → List Line
-bare_line k set = cond set (line.Bare (kept 15 k) ∷ []) []
+bare_line k set = mark_line 15 line.Bare k set
 
 -- whether a line stands there
 abbrev pub filled : List Line → Bool

@@ -3,7 +3,7 @@ ghost use Rattle.std.specs.Prelude.{◌≡◌, []};
 ghost use Rattle.book.specs.Tables.{nought, blank_watch, blank_link};
 ghost use Rattle.book.specs.Lines.{lines};
 
-use crate::tables::Book;
+use crate::tables::{Book, LINKS, MODES, NODES, OPENS, RULES, WATCHES};
 use grade::upto::UpTo;
 use text::line::{LinkLine, WatchLine};
 
@@ -40,15 +40,15 @@ impl Book {
         ensures { lines result ≡ [] }
     {
         Book {
-            rules: [None; 64],
-            opens: [0; 8],
+            rules: [None; RULES],
+            opens: [0; OPENS],
             opening: 0,
-            watches: [blank_watch(); 128],
+            watches: [blank_watch(); WATCHES],
             watching: 0,
-            links: [blank_link(); 128],
+            links: [blank_link(); LINKS],
             linking: 0,
-            ends: [false; 64],
-            bares: [false; 16],
+            ends: [false; NODES],
+            bares: [false; MODES],
         }
     }
 }

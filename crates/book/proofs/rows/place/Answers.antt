@@ -1,8 +1,6 @@
-use Rattle.std.proofs.Common.{◌≡◌, ◌≤◌, ltb, length, take, sym, ap, ◌∙◌, arith, rules}
-use native.Mathlib.Nat.{sub-zero}
+use Rattle.std.proofs.Common.{◌≤◌, ltb, length, take, sym, ◌∙◌, arith, rules}
 use Rattle.std.proofs.lemmas.List.{length-take-le}
 use Rattle.std.proofs.lemmas.List.Sorted.{IsPartitionPoint-from_clause, IsPartitionedBy-ltb}
-use Rattle.std.specs.Ordering.{is_lt}
 use Rattle.book.proofs.Orders.{lower_rank, rising}
 use Rattle.book.proofs.Turns.{put_at, placed_used, placed_rest}
 use Rattle.book.proofs.rows.place.Goals as goal

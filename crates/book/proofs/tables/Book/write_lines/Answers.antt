@@ -1,65 +1,36 @@
-use Rattle.std.proofs.Common.{◌++◌, length, drop, sym, ap, ◌∙◌, arith, rules}
+use Rattle.std.proofs.Common.{◌+◌, [], ◌∷◌, ◌++◌, length, drop, sym, ap, ◌∙◌, append_assoc, arith}
 use Rattle.std.proofs.lemmas.List.{length-append, length-drop, take_rest}
-use Rattle.book.specs.Places.{line_at}
+use Rattle.book.specs.Walk.{rest}
 use Rattle.book.specs.Writing.{ended, book_text}
-use Rattle.book.proofs.Places.{below}
-use Rattle.book.proofs.Written.{text_more, text_fits, none_more, all_counted, none_written, one_written}
+use Rattle.book.proofs.Written.{no_text, text_more, text_left, one_written}
 use Rattle.book.proofs.tables.Book.write_lines.Goals as goal
-use Rattle.book.proofs.tables.Book.write_lines.Goals.{in-Some, in_default}
 
-pub loop-k-init : goal.loop-k-init
-loop-k-init c = let none = none_written c.args.self.now in (sym (ap length none), sym (ap (λ t. t ++ c.args.out.now) none))
+pub loop-line-init : goal.loop-line-init
+loop-line-init c = (ap rest c.into_iter-line-iterator.ensures.into_iter_gives ∙ c.lines-line-items.ensures, sym (ap length no_text), sym (ap (λ t. t ++ c.args.out.now) no_text))
 
 -- the whole text fits, so there is room for the next line
-pub slice_bounds-write_ended-count : goal.slice_bounds-write_ended-count
-slice_bounds-write_ended-count c =
-    let fits = text_fits c.args.self.now c.loop-k.k c.in-Some.line c.in-Some.ensures c.loop-k-test.true in
-    omega arith
-
-pub slice_bounds-write_ended-start : goal.slice_bounds-write_ended-start
-slice_bounds-write_ended-start c =
-    let fits = text_fits c.args.self.now c.loop-k.k c.in-Some.line c.in-Some.ensures c.loop-k-test.true in
-    search rules
-
 pub write_ended-n-requires : goal.write_ended-n-requires
 write_ended-n-requires c =
-    let fits = text_fits c.args.self.now c.loop-k.k c.in-Some.line c.in-Some.ensures c.loop-k-test.true in
-    let rest = ap length (take_rest c.loop-k.out c.loop-k.n) in
-    let left = length-drop c.loop-k.n c.loop-k.out in
+    let fits = text_left c.loop-line.yielded c.in-Some.line (rest c.next.new.self) _ (ap (λ ls. c.loop-line.yielded ++ ls) (sym c.in-Some.ensures.steps) ∙ c.loop-line.invariant.0) in
+    let count = c.loop-line.invariant.1 in
+    let left = length-drop c.loop-line.n c.loop-line.out in
+    let all = ap length (take_rest c.loop-line.out c.loop-line.n) in
+    let kept = c.loop-line.auto.out in
     omega arith
 
-pub overflow_add-n : goal.overflow_add-n
-overflow_add-n c =
-    let fits = text_fits c.args.self.now c.loop-k.k c.in-Some.line c.in-Some.ensures c.loop-k-test.true in
-    omega arith
-
-pub loop-k-preserved : goal.loop-k-preserved
-loop-k-preserved c =
-    let b = c.args.self.now in
-    let k = c.loop-k.k in
-    let t = book_text (below (line_at b) k) in
-    elim c.match-at.branch [
-      | in-Some w ↦
-          let l = w.in-Some.line in
-          let more = text_more b k l w.in-Some.ensures in
-          let sum = length-append t (ended l) in
-          let size = w.write_ended-n.ensures.count in
-          let long = ap length more in
-          let old = c.loop-k.invariant.0 in
-          let n = w.n-is in (
-            omega arith,
-            w.out-is ∙ one_written t (ended l) c.args.out.now c.loop-k.out w.write_ended-n.new.out c.loop-k.n w.write_ended-n.result (sym old) c.loop-k.invariant.1 size w.write_ended-n.ensures.text
-                ∙ (λ i. sym more i ++ drop (sym n i) c.args.out.now),
-          )
-      | in_default w ↦
-          let same = ap book_text (none_more b k w.in_default.ensures) in
-          (w.n-is ∙ c.loop-k.invariant.0 ∙ sym (ap length same), w.out-is ∙ c.loop-k.invariant.1 ∙ (λ i. sym same i ++ drop (sym w.n-is i) c.args.out.now))
-    ]
-
-pub returns : goal.returns
-returns c =
-    let all = all_counted c.args.self.now c.loop-k.k c.loop-k-test.false c.loop-k.auto.k-end in
-    record {
-      count = c.loop-k.invariant.0 ∙ ap (λ ls. length (book_text ls)) all;
-      text = c.loop-k.invariant.1 ∙ ap (λ ls. book_text ls ++ drop c.loop-k.n c.args.out.now) all;
-    }
+pub loop-line-preserved : goal.loop-line-preserved
+loop-line-preserved c =
+    let ys = c.loop-line.yielded in
+    let l = c.in-Some.line in
+    let n = c.loop-line.n in
+    let old = c.loop-line.invariant in
+    let r = c.write_ended-n.result in
+    let more = text_more ys l in
+    let size = c.write_ended-n.ensures.count in
+    let long = ap length more ∙ length-append (book_text ys) (ended l) in
+    let count = old.1 in (
+      append_assoc ys (l ∷ []) (rest c.next.new.self) ∙ ap (λ ls. ys ++ ls) (sym c.in-Some.ensures.steps) ∙ old.0,
+      omega arith,
+      one_written (book_text ys) (ended l) c.args.out.now c.loop-line.out c.write_ended-n.new.out n r (sym count) old.2 size c.write_ended-n.ensures.text
+          ∙ ap (λ t. t ++ drop (n + r) c.args.out.now) (sym more),
+    )

@@ -1,10 +1,8 @@
 use Rattle.std.proofs.Common.{◌≡◌, ◌++◌, length, drop}
-use Rattle.book.specs.Places.{line_at}
+use Rattle.book.specs.Lines.{lines}
+use Rattle.book.specs.Walk.{rest}
 use Rattle.book.specs.Writing.{book_text}
-use Rattle.book.proofs.Places.{below}
 use Rattle.book.proofs.tables.Book.write_lines.Given as goal
 
-abbrev pub invariant-loop-k : goal.invariant-loop-k
-invariant-loop-k l =
-    (l.n ≡ length (book_text (below (line_at l.self) l.k)))
-    × (l.out ≡ book_text (below (line_at l.self) l.k) ++ drop l.n l.initial.out)
+abbrev pub invariant-loop-line : goal.invariant-loop-line
+invariant-loop-line l = (l.yielded ++ rest l.line-iterator ≡ lines l.self) × (l.n ≡ length (book_text l.yielded)) × (l.out ≡ book_text l.yielded ++ drop l.n l.initial.out)
