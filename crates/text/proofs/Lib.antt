@@ -1,7 +1,7 @@
 pub mod Steps
 pub mod Readers
 pub mod Names
-pub mod Laid
+pub mod Written
 pub mod Fillings
 pub mod Numbers
 pub mod Filled

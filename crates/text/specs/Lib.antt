@@ -5,5 +5,4 @@ pub mod Names
 pub mod Reading
 pub mod Meaning
 pub mod Steps
-pub mod Writing
 pub mod Refusals

@@ -5,6 +5,7 @@
 mod form_name;
 pub mod line;
 mod line_reader;
+mod line_text;
 pub mod phase;
 pub mod reader;
 pub mod refusal;

@@ -14,7 +14,7 @@ pub type Number = UpTo<63>;
 // A state of the automaton that says which lanes are watched.
 pub type Node = UpTo<63>;
 
-// The wagons that an order sets down, the first on top.
+// The wagons that an order sets down, the first on top. An enum: it has the three cases, where a list would need a length.
 #[derive(Clone, Copy, Debug, PartialEq, Eq)]
 pub enum Wagons {
     Zero,
