@@ -1,22 +1,14 @@
-use Rattle.std.proofs.Common.{◌+◌, cond, ◌∷◌, length, Err, sym, ap, ◌∙◌, arith}
+use Rattle.std.proofs.Common.{◌+◌, cond, ◌∷◌, Err, sym, ap, ◌∙◌}
 use Rattle.std.proofs.lemmas.Result.{err_from_is_err_and}
 use Rattle.text.specs.Reading.{take_numbers}
-use Rattle.text.specs.Steps.{goes_on}
-use Rattle.text.proofs.Readers.{blank_on, blank_off}
+use Rattle.text.proofs.Readers.{blank_on}
 use Rattle.text.proofs.line_reader.LineReader.another.Goals as goal
-
-pub returns-then-not-takes-clause-value : goal.returns-then-not-takes-clause-value
-returns-then-not-takes-clause-value g c =
-    λ n rise next. blank_off n g.row.MAX c.args.least rise c.args.self.now next c.if-not-takes.ensures.1 ∙ ap (goes_on (next _)) (sym c.if-not-takes.ensures.0)
 
 pub returns-in_err-x-clause-value : goal.returns-in_err-x-clause-value
 returns-in_err-x-clause-value g c =
     let x = err_from_is_err_and c.from_residual.result c.from_residual.ensures.1 in
     rw x.1 (λ n rise next. blank_on n g.row.MAX c.args.least rise c.args.self.now c.takes.new.self next c.if-not-takes.ensures
     ∙ c.in_err-x.ensures.value (λ x t q o f. take_numbers n g.row.MAX rise (cond rise (x.value + 1) 0) t q o f (λ xs. next (x ∷ xs))) ∙ ap Err (sym x.2))
-
-pub returns-clause-shorter : goal.returns-clause-shorter
-returns-clause-shorter g c = omega (arith, c.in_ok-x.ensures.shorter, ap (λ l. length l) c.if-not-takes.ensures.rest)
 
 pub returns-clause-value : goal.returns-clause-value
 returns-clause-value g c =

@@ -1,8 +1,7 @@
-use Rattle.std.proofs.Common.{◌≡◌, ap, ◌++◌, ◌∙◌, ◌+◌, length, arith}
+use Rattle.std.proofs.Common.{◌≡◌, ap, ◌++◌, ◌∙◌, arith}
 use Rattle.std.specs.List.{flat_map}
 use Rattle.text.specs.Phases.{members, members_below}
 use Rattle.text.specs.Forms.{blank_number}
-use Rattle.text.proofs.Written.{member, no_member}
 use Rattle.text.proofs.line_text.LineText.phase.Goals as goal
 
 pub returns-clause-text : goal.returns-clause-text
