@@ -1,6 +1,6 @@
 -- A line that begins with a form's name is read by that form. Assumes nothing.
-use Rattle.std.proofs.Common.{◌≡◌, ℕ, ◌+◌, ◌≤◌, max, cond, ltb, List, [], ◌∷◌, ◌++◌, map, length, Ok, Err, Option, Some, None, sym, refl, ap, ◌∙◌, subst, ⊎_elim, arith}
-use Rattle.std.proofs.lemmas.Bool.{cond-false, le-ltb}
+use Rattle.std.proofs.Common.{◌≡◌, ℕ, ◌+◌, ◌<◌, ◌≤◌, max, cond, ltb, List, [], ◌∷◌, ◌++◌, map, length, Ok, Err, Option, Some, None, sym, refl, ap, ◌∙◌, subst, ⊎_elim, arith}
+use Rattle.std.proofs.lemmas.Bool.{cond-true, cond-false, lt-ltb, le-ltb}
 use Rattle.std.specs.List.{AllByRecursion}
 use Rattle.text.specs.declared.line.Line.{Line}
 use Rattle.text.specs.declared.form_name.FormName.{FormName}
@@ -48,6 +48,10 @@ behind_wins x n past (k ∷ ks) le =
 
 short : (s : List ℕ) (x : Outcome) → length s ≤ 512 → cond (ltb 512 (length s)) (Err (Syntax 513)) x ≡ x
 short s x le = cond-false (ltb 512 (length s)) _ _ (le-ltb 512 (length s) le)
+
+-- a line that is too long is no line of any form
+pub too_long : (fs : List Form) (s : List ℕ) → 512 < length s → read_as fs s ≡ Err (Syntax 513)
+too_long fs s lt = cond-true (ltb 512 (length s)) _ _ (lt-ltb 512 (length s) lt)
 
 -- the forms before and behind stop at these places, within the name
 named : (fs : List Form) (s : List ℕ) (x : Outcome) (n : ℕ) (ks : List ℕ) (k : ℕ) → length s ≤ 512 → Past n x → AllByRecursion (λ j. j ≤ n) ks → k ≤ n → by_forms fs s ≡ behind ks (further x (Err (Syntax k))) → read_as fs s ≡ x

@@ -48,17 +48,25 @@ notice_tail =
 abbrev pub open_tail : List Part
 open_tail = rising ∷ word (codes ")") ∷ []
 
+-- three numbers up to these limits, to the end of the line
+abbrev pub three_tail : ℕ → ℕ → ℕ → List Part
+three_tail a b c = number a ∷ word (codes " ") ∷ number b ∷ word (codes " ") ∷ number c ∷ word (codes ")") ∷ []
+
+-- one number up to this limit, to the end of the line
+abbrev pub one_tail : ℕ → List Part
+one_tail most = number most ∷ word (codes ")") ∷ []
+
 abbrev pub watch_tail : List Part
-watch_tail = number 15 ∷ word (codes " ") ∷ number 31 ∷ word (codes " ") ∷ number 63 ∷ word (codes ")") ∷ []
+watch_tail = three_tail 15 31 63
 
 abbrev pub link_tail : List Part
-link_tail = number 63 ∷ word (codes " ") ∷ number 31 ∷ word (codes " ") ∷ number 63 ∷ word (codes ")") ∷ []
+link_tail = three_tail 63 31 63
 
 abbrev pub end_tail : List Part
-end_tail = number 63 ∷ word (codes ")") ∷ []
+end_tail = one_tail 63
 
 abbrev pub bare_tail : List Part
-bare_tail = number 15 ∷ word (codes ")") ∷ []
+bare_tail = one_tail 15
 
 abbrev pub order_of : Values order_tail → Line
 order_of v =

@@ -3,7 +3,7 @@ ghost use Rattle.std.specs.Prelude.{◌≡◌, ◌+◌, ◌≤◌, length};
 ghost use Rattle.text.specs.Numerals.{kept};
 
 use crate::form_name::FormName;
-use crate::line::{Line, LinkLine, NoticeLine, OrderLine, Wagons, WatchLine};
+use crate::line::{Line, NoticeLine, OrderLine, Wagons};
 use crate::phase::bit;
 use crate::refusal::LineRefusal;
 use grade::toll::Toll;
@@ -24,26 +24,30 @@ pub(crate) struct LineReader<'a> {
 }
 
 impl<'a> LineReader<'a> {
-    ghost use Rattle.std.specs.Prelude.{◌≡◌, ℕ, suc, Bool, false, List, [], ◌∷◌, Ok, Err, OnSome, OnOk, IfOk, MatchBool, MatchResult, codes};
+    ghost use Rattle.std.specs.Prelude.{◌≡◌, ℕ, suc, ◌<◌, Bool, false, List, [], ◌∷◌, Ok, Err, OnSome, OnOk, IfOk, MatchBool, MatchResult, codes};
     ghost use Rattle.grade.specs.declared.upto.UpTo.{UpTo};
     ghost use Rattle.text.specs.declared.line.Line.{Line};
     ghost use Rattle.text.specs.declared.refusal.LineRefusal.TheVariants.{Syntax};
     ghost use Rattle.text.specs.Numerals.{starts};
-    ghost use Rattle.text.specs.Forms.{Part, Values, word, number, wagons, rising, toll_parts, bare_tail, bare_of, end_tail, end_of, watch_tail, watch_of, link_tail, link_of, order_tail, order_of, notice_tail, notice_of, open_tail, open_of};
+    ghost use Rattle.text.specs.Forms.{Part, Values, word, number, wagons, rising, toll_parts, one_tail, three_tail, order_tail, order_of, notice_tail, notice_of, open_tail, open_of};
     ghost use Rattle.text.specs.Reading.{Next};
     ghost use Rattle.text.specs.Steps.{Off, NameOff, Unread, DigitsOff, NumberOff, scanned, number_then, goes_on, numbers_then, after_another, Lacks};
 
-    // A line of which nothing is read yet.
-    pub(crate) fn new(line: &'a [u8]) -> LineReader<'a>
-        requires { length line.now ≤ 512 }
-        ensures { Unread line.now result }
+    // A line of which nothing is read yet, where it is not too long.
+    pub(crate) fn new(line: &'a [u8]) -> Result<LineReader<'a>, LineRefusal>
+        ensures { MatchResult result
+            (λ r. (length line.now ≤ 512) × Unread line.now r)
+            (λ e. (512 < length line.now) × (e ≡ Syntax 513)) }
     {
-        LineReader {
+        if line.len() > 512 {
+            return Err(LineRefusal::Syntax(513));
+        }
+        Ok(LineReader {
             rest: line,
             place: 1,
             over: None,
             falls: None,
-        }
+        })
     }
 
     // Takes bracket, name and blank of a form off the line.
@@ -292,48 +296,32 @@ impl<'a> LineReader<'a> {
         Ok(Line::Open(phase))
     }
 
-    // What stands behind `(watch `.
-    pub(crate) fn watch(&mut self) -> Result<Line, LineRefusal>
-        ensures { result ≡ scanned watch_tail watch_of self.old }
+    // What stands behind the name of a form of three numbers.
+    pub(crate) fn three<const A: u16, const B: u16, const C: u16>(
+        &mut self,
+    ) -> Result<(UpTo<A>, UpTo<B>, UpTo<C>), LineRefusal>
+        ensures { MatchResult result
+            (λ x. (line : Values (three_tail A B C) → Line) → scanned (three_tail A B C) line self.old ≡ Ok (line (x.0, (x.1, (x.2, tt)))))
+            (λ e. (line : Values (three_tail A B C) → Line) → scanned (three_tail A B C) line self.old ≡ Err e) }
     {
-        let (mode, wagon) = self.pair::<15, 31>()?;
+        let (a, b) = self.pair::<A, B>()?;
         self.word(b" ")?;
-        let node = self.number::<63>()?;
+        let c = self.number::<C>()?;
         self.word(b")")?;
         self.end()?;
-        Ok(Line::Watch(WatchLine { mode, wagon, node }))
+        Ok((a, b, c))
     }
 
-    // What stands behind `(link `.
-    pub(crate) fn link(&mut self) -> Result<Line, LineRefusal>
-        ensures { result ≡ scanned link_tail link_of self.old }
+    // What stands behind the name of a form of one number.
+    pub(crate) fn one<const MAX: u16>(&mut self) -> Result<UpTo<MAX>, LineRefusal>
+        ensures { MatchResult result
+            (λ x. (line : Values (one_tail MAX) → Line) → scanned (one_tail MAX) line self.old ≡ Ok (line (x, tt)))
+            (λ e. (line : Values (one_tail MAX) → Line) → scanned (one_tail MAX) line self.old ≡ Err e) }
     {
-        let (node, wagon) = self.pair::<63, 31>()?;
-        self.word(b" ")?;
-        let to = self.number::<63>()?;
+        let x = self.number::<MAX>()?;
         self.word(b")")?;
         self.end()?;
-        Ok(Line::Link(LinkLine { node, wagon, to }))
-    }
-
-    // What stands behind `(end `.
-    pub(crate) fn end_node(&mut self) -> Result<Line, LineRefusal>
-        ensures { result ≡ scanned end_tail end_of self.old }
-    {
-        let node = self.number::<63>()?;
-        self.word(b")")?;
-        self.end()?;
-        Ok(Line::End(node))
-    }
-
-    // What stands behind `(bare `.
-    pub(crate) fn bare(&mut self) -> Result<Line, LineRefusal>
-        ensures { result ≡ scanned bare_tail bare_of self.old }
-    {
-        let mode = self.number::<15>()?;
-        self.word(b")")?;
-        self.end()?;
-        Ok(Line::Bare(mode))
+        Ok(x)
     }
 }
 

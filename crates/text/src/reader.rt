@@ -7,7 +7,7 @@ ghost use Rattle.text.specs.Reading.{Outcome, read, read_as, as_line, read_rule}
 ghost use Rattle.text.specs.Meaning.{Says, SaysAs};
 
 use crate::form_name::FormName;
-use crate::line::{Line, Rule};
+use crate::line::{Line, LinkLine, Rule, WatchLine};
 use crate::line_reader::LineReader;
 use crate::refusal::LineRefusal;
 
@@ -33,18 +33,21 @@ fn unnamed(line: &[u8], names: &[FormName]) -> usize
 fn read_named(line: &[u8]) -> Result<Line, LineRefusal>
     ensures { result ≡ read line.now }
 {
-    if line.len() > 512 {
-        return Err(LineRefusal::Syntax(513));
-    }
-    let mut reader = LineReader::new(line);
+    let mut reader = LineReader::new(line)?;
     match reader.name() {
         Some(FormName::Order) => Ok(Line::Order(reader.order()?)),
         Some(FormName::Notice) => Ok(Line::Notice(reader.notice()?)),
         Some(FormName::Open) => reader.phase(),
-        Some(FormName::Watch) => reader.watch(),
-        Some(FormName::Link) => reader.link(),
-        Some(FormName::End) => reader.end_node(),
-        Some(FormName::Bare) => reader.bare(),
+        Some(FormName::Watch) => {
+            let (mode, wagon, node) = reader.three()?;
+            Ok(Line::Watch(WatchLine { mode, wagon, node }))
+        }
+        Some(FormName::Link) => {
+            let (node, wagon, to) = reader.three()?;
+            Ok(Line::Link(LinkLine { node, wagon, to }))
+        }
+        Some(FormName::End) => Ok(Line::End(reader.one()?)),
+        Some(FormName::Bare) => Ok(Line::Bare(reader.one()?)),
         None => Err(LineRefusal::Syntax(unnamed(line, &FormName::ALL))),
     }
 }
@@ -53,10 +56,7 @@ fn read_named(line: &[u8]) -> Result<Line, LineRefusal>
 fn read_named_rule(line: &[u8]) -> Result<Rule, LineRefusal>
     ensures { as_line result ≡ read_as rule_forms line.now }
 {
-    if line.len() > 512 {
-        return Err(LineRefusal::Syntax(513));
-    }
-    let mut reader = LineReader::new(line);
+    let mut reader = LineReader::new(line)?;
     match reader.name() {
         Some(FormName::Order) => Ok(Rule::Order(reader.order()?)),
         Some(FormName::Notice) => Ok(Rule::Notice(reader.notice()?)),

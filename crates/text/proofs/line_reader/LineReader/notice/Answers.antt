@@ -16,7 +16,3 @@ pub returns-in_err-end : goal.returns-in_err-end
 returns-in_err-end c =
     let x = err_from_is_err_and c.from_residual-in_err-end.result c.from_residual-in_err-end.ensures.1 in
     rw x.1 (c.in_ok-number.ensures _ _ ∙ c.in_ok-word.ensures _ _ ∙ c.in_ok-mode.ensures _ _ ∙ c.in_ok-word-2.ensures _ _ ∙ c.in_ok-loses.ensures _ _ ∙ c.in_ok-word-3.ensures _ _ ∙ c.in_ok-toll.ensures _ ∙ c.in_err-end.ensures _ ∙ ap Err (sym x.2))
-
-pub returns : goal.returns
-returns c =
-    c.in_ok-number.ensures _ _ ∙ c.in_ok-word.ensures _ _ ∙ c.in_ok-mode.ensures _ _ ∙ c.in_ok-word-2.ensures _ _ ∙ c.in_ok-loses.ensures _ _ ∙ c.in_ok-word-3.ensures _ _ ∙ c.in_ok-toll.ensures _ ∙ c.in_ok-end.ensures _
