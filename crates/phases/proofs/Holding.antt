@@ -1,7 +1,6 @@
 -- The watch as an automaton that reads a lane. Assumes nothing.
-use Rattle.std.proofs.Common.{◌≡◌, ℕ, ◌-◌, ◌<◌, ◌≤◌, true, false, List, [], ◌∷◌, length, get_or, take, drop, is_some, Some, None, Option, sym, refl, ap, subst, arith, MatchOption}
-use Rattle.std.proofs.lemmas.List.{take_all}
-use Rattle.std.proofs.lemmas.Bool.{false≢true}
+use Rattle.std.proofs.Common.{◌≡◌, ℕ, ◌-◌, ◌<◌, ◌≤◌, Bool, true, false, List, [], ◌∷◌, length, get_or, take, drop, Decides, sym, refl, ap, ◌∙◌, subst, arith}
+use Rattle.std.proofs.lemmas.List.{take_all, length-take, get_or-take}
 use Rattle.grade.specs.declared.upto.UpTo.{UpTo}
 use Rattle.text.specs.declared.line.Line.{Line}
 use Rattle.model.specs.Phases.{Opened}
@@ -11,25 +10,25 @@ use Rattle.book.specs.declared.tables.Book.{Book}
 use Rattle.book.specs.Lines.{lines}
 use Rattle.book.proofs.Standing.{end_stands, bare_stands}
 use Rattle.phases.specs.declared.table.Phases.{Phases}
-use Rattle.phases.specs.Table.{Holds, FirstAt}
-use Rattle.phases.specs.Nodes.{Enters, Links, EndsIn, LeadsFrom}
+use Rattle.phases.specs.Table.{used, Holds}
+use Rattle.phases.specs.Nodes.{Marked, Enters, Links, EndsIn, LeadsFrom}
 use Rattle.phases.specs.Held.{Takes, Taken}
+use Rattle.phases.proofs.Marking.{any_both, both_from, from_both}
 
 -- ---- what stands in the tables
 
 module _ (b : Book) where
-  pub watches_few : b.watching ≤ length b.watches
-  watches_few = let long = b.watched.0 in let few = b.watched.1 in omega arith
-
-  pub links_few : b.linking ≤ length b.links
-  links_few = let long = b.linked.0 in let few = b.linked.1 in omega arith
-
-  -- a node below 64 that is marked, and whose end line stands
-  pub ends_in : (P : ℕ → Type 0) (t : ℕ) → t < 64 → P t → get_or b.ends t false ≡ true → EndsIn (lines b) P
-  ends_in P t lt p mark = let u : UpTo 63 = record { value = t; fits = omega arith } in (u, (end_stands b u).1 mark, p)
-
-  pub no_ends : (P : ℕ → Type 0) → ((t : ℕ) → t < 64 → P t → get_or b.ends t false ≡ true → ⊥) → EndsIn (lines b) P → ⊥
-  no_ends P none (u, s, p) = let fits = u.fits in none u.value (omega arith) p ((end_stands b u).0 s)
+  -- a node that is marked, and whose end line stands
+  pub any_ends : (nodes : List Bool) → Decides (any_both nodes b.ends) (EndsIn (lines b) (Marked nodes))
+  any_ends nodes =
+      let long = b.marked.0 in (
+        λ e.
+            let h = both_from nodes b.ends e in
+            let lt = h.1 in
+            let t : UpTo 63 = record { value = h.0; fits = omega arith } in
+            (t, (end_stands b t).1 h.3, h.2),
+        λ (t, s, m). from_both nodes b.ends t.value m ((end_stands b t).0 s),
+      )
 
   -- an empty lane
   pub bare_takes : (mode : ℕ) → mode ≤ 15 → get_or b.bares mode false ≡ true → Takes (lines b) mode []
@@ -86,6 +85,11 @@ pub lane_parts : (w : List ℕ) → 1 ≤ length w → w ≡ get_or w 0 0 ∷ ta
 lane_parts [] le = absurd (omega arith)
 lane_parts (k ∷ w) le = ap (λ r. k ∷ r) (sym (take_all (length (k ∷ w) - 1) w (omega arith)))
 
-pub index_holds : (p : Phases) (F : ℕ) (o : Option ℕ) → is_some o ≡ true → MatchOption o (Holds p F → ⊥) (FirstAt p F) → Holds p F
-index_holds p F None some h = absurd (false≢true some)
-index_holds p F (Some i) some h = (i, h.within, h.here)
+pub used_holds : (p : Phases) (xs : List ℕ) (F : ℕ) → xs ≡ used p → (k : ℕ) → k < length xs → get_or xs k 0 ≡ F → Holds p F
+used_holds p xs F is k lt at =
+    let e = ap length is in
+    let long = p.places.0 in
+    let few = p.places.1 in
+    let n = length-take p.count p.table in
+    let less : k < p.count = omega arith in
+    (k, less, sym (get_or-take p.count p.table k 0 less) ∙ ap (λ ys. get_or ys k 0) (sym is) ∙ at)

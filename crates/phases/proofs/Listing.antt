@@ -1,13 +1,16 @@
 -- How the table of phases grows, and what it holds when no notice leads out of it. Assumes nothing.
-use Rattle.std.proofs.Common.{◌≡◌, ℕ, ◌+◌, ◌<◌, ◌≤◌, ◌⊎◌, List, length, get_or, replicate, sym, refl, ap, ◌∙◌, subst, inl, inr, ⊎_elim, arith}
-use Rattle.std.proofs.lemmas.List.{get_or-set_same, get_or-set_other, get_or-replicate, get_or_past, length-replicate}
-use Rattle.std.proofs.lemmas.Bool.{cases_lt}
+use Rattle.std.proofs.Common.{◌≡◌, ℕ, ◌+◌, ◌<◌, ◌≤◌, ◌⊎◌, List, length, get_or, take, replicate, is_some, Some, None, Option, sym, refl, ap, ◌∙◌, subst, inl, inr, ⊎_elim, arith}
+use Rattle.std.specs.List.{Contains}
+use Rattle.std.proofs.lemmas.List.Elements.{Contains-from_at, at_from_Contains}
+use Rattle.std.proofs.lemmas.List.{get_or_default, get_or-set_same, get_or-set_other, get_or-replicate, get_or_past, length-replicate}
+use Rattle.std.proofs.lemmas.Bool.{cases_lt, false≢true}
 use Rattle.text.specs.declared.line.NoticeLine.{NoticeLine}
+use Rattle.text.specs.declared.line.Rule.{Rule}
+use Rattle.text.specs.declared.line.Rule.TheVariants as rule
 use Rattle.text.specs.declared.line.Line.{Line}
 use Rattle.deduction.specs.Counting.{Different}
 use Rattle.deduction.proofs.Counting.{filled_outnumber, overfull_outnumber}
 use Rattle.model.specs.Phases.{Allows, after, Opened}
-use Rattle.book.specs.declared.rule.Rule.TheVariants as rule
 use Rattle.book.specs.declared.tables.Book.{Book}
 use Rattle.book.specs.Lines.{lines}
 use Rattle.book.proofs.Standing.{open_stands, notice_stands, notice_at}
@@ -16,9 +19,8 @@ use Rattle.phases.specs.declared.refusal.PhaseRefusal.{PhaseRefusal}
 use Rattle.phases.specs.Table.{phase_at, Holds, Blank, OpenedBy}
 use Rattle.phases.specs.Missing.{NoneMissing}
 use Rattle.phases.specs.Refusals.{PhasesAllowed}
-use Rattle.phases.specs.Growth.{Pushed, Added, Lacking, Found, Grown, Went, Stuck, Started, RuleFollowed, Followed, Closed}
-use Rattle.phases.proofs.Rows.{row_has, has_row}
-use Rattle.phases.proofs.Naming.{opens_few}
+use Rattle.phases.specs.Growth.{Pushed, Added, Lacking, Found, Grown, Went, Stuck, Started, NextBy, RuleFollowed, Followed, Closed}
+use Rattle.phases.proofs.Rows.{more_cases}
 
 pub grown_same : (p : Phases) → Grown p p
 grown_same p = record { longer = omega arith; same = λ k lt. refl }
@@ -139,20 +141,11 @@ blank_none k le = let long = length-replicate {A = ℕ} 32 0 in ⊎_elim (λ lt.
 -- ---- by the tables of a book
 
 module _ (b : Book) where
-  pub open_opened : (k : ℕ) → k < b.opening → Opened (lines b) (get_or b.opens k 0)
-  open_opened k lt = Opened.opened ((open_stands b (get_or b.opens k 0)).1 (row_has b.opens b.opening 0 (get_or b.opens k 0) (opens_few b) k lt refl))
+  pub open_opened : (F : ℕ) → Contains (take b.opening b.opens) F → Opened (lines b) F
+  open_opened F h = Opened.opened ((open_stands b F).1 (at_from_Contains (take b.opening b.opens) F h))
 
-  pub started_all : (p : Phases) → ((k : ℕ) → k < b.opening → Holds p (get_or b.opens k 0)) → Started (lines b) p
-  started_all p each F s = let (k, lt, is) = has_row b.opens b.opening 0 F (opens_few b) ((open_stands b F).0 s) in subst (Holds p) is (each k lt)
-
-  pub notice_opened : (place : ℕ) (n : NoticeLine) (F : ℕ) → place < 64 → get_or b.rules place rule.Free ≡ rule.Notice n → Opened (lines b) F → Allows n F → Opened (lines b) (after n F)
-  notice_opened place n F lt e yet allows = Opened.noticed yet (notice_at b place n lt e).0 allows
-
-  pub followed_all : (p : Phases) (F : ℕ) → ((k : ℕ) → k < 64 → RuleFollowed b p F k) → Followed (lines b) p F
-  followed_all p F each n s allows = let fits = n.number.fits in each n.number.value (omega arith) n ((notice_stands b n).0 s) allows
-
-  pub rule_followed_more : (p q : Phases) (F k : ℕ) → Grown p q → RuleFollowed b p F k → RuleFollowed b q F k
-  rule_followed_more p q F k g h n e allows = holds_more p q (after n F) g (h n e allows)
+  pub started_all : (p : Phases) → ((F : ℕ) → Contains (take b.opening b.opens) F → Holds p F) → Started (lines b) p
+  started_all p each F s = each F (Contains-from_at (take b.opening b.opens) F ((open_stands b F).0 s))
 
   pub closed_more : (p q : Phases) (done : ℕ) → done < p.count → Grown p q → Closed (lines b) p done → Followed (lines b) q (phase_at p done) → Closed (lines b) q (done + 1)
   closed_more p q done within g closed now k lt =
@@ -161,13 +154,57 @@ module _ (b : Book) where
       (λ le. let e : k ≡ done = omega arith in subst (Followed (lines b) q) (sym (ap (phase_at q) e ∙ g.same done within)) now)
       (cases_lt k done)
 
-  -- where the rule at a place is a notice, the phase after it by that notice was added
-  pub went_rule : (p q : Phases) (F place : ℕ) (n : NoticeLine) (G : ℕ) → place < 64 → get_or b.rules place rule.Free ≡ rule.Notice n → G ≡ after n F
-      → Found (lines b) p → Opened (lines b) G → Added p G q → Went (lines b) p q (RuleFollowed b q F place)
-  went_rule p q F place n G lt e is found yet added =
+rule_followed_more : (p q : Phases) (F : ℕ) (r : Option Rule) → Grown p q → RuleFollowed p F r → RuleFollowed q F r
+rule_followed_more p q F r g h n e allows = holds_more p q (after n F) g (h n e allows)
+
+-- ---- rule by rule
+
+abbrev pub RulesFollowed : Phases → ℕ → List (Option Rule) → Type 0
+RulesFollowed p F rules = (r : Option Rule) → Contains rules r → RuleFollowed p F r
+
+no_next : (G : ℕ) → ◌≡◌ {A = Option ℕ} None (Some G) → ⊥
+no_next G e = false≢true (ap is_some e)
+
+some_same : (G H : ℕ) → ◌≡◌ {A = Option ℕ} (Some G) (Some H) → G ≡ H
+some_same G H e = cc e
+
+-- nothing is added where the rule leads nowhere, and else the phase that it leads to
+pub none_followed : (q : Phases) (F : ℕ) (r : Option Rule) → NextBy r F None → RuleFollowed q F r
+none_followed q F r by n e allows = absurd (no_next (after n F) (by.all n e allows))
+
+next_followed : (q : Phases) (F G : ℕ) (r : Option Rule) → NextBy r F (Some G) → Holds q G → RuleFollowed q F r
+next_followed q F G r by held n e allows = subst (Holds q) (some_same G (after n F) (by.all n e allows)) held
+
+module _ (b : Book) where
+  pub next_opened : (F G : ℕ) (r : Option Rule) → Contains b.rules r → Opened (lines b) F → NextBy r F (Some G) → Opened (lines b) G
+  next_opened F G r (k, lt, is) yet by =
+      let (n, e, allows, to) = by.just G refl in
+      let long = b.numbered.0 in
+      let at = get_or_default b.rules k None r lt ∙ is ∙ e in
+      subst (Opened (lines b)) (sym to) (Opened.noticed yet (notice_at b k n (omega arith) at).0 allows)
+
+  pub went_next : (p q : Phases) (F G : ℕ) (r : Option Rule) → Found (lines b) p → Opened (lines b) G → NextBy r F (Some G) → Added p G q → Went (lines b) p q (RuleFollowed q F r)
+  went_next p q F G r found yet by added =
       let went = added_went (lines b) p q G found yet added in
-      record {
-        found = went.found;
-        grown = went.grown;
-        reached = λ m f allows. let same : n ≡ m = cc in subst (Holds q) (is ∙ ap (λ o. after o F) same) went.reached;
-      }
+      record { found = went.found; grown = went.grown; reached = next_followed q F G r by went.reached }
+
+  -- the rules up to a place are followed, and one more
+  pub rules_more : (o p q : Phases) (F i : ℕ) (d : Option Rule) → i < length b.rules → Went (lines b) o p (RulesFollowed p F (take i b.rules))
+      → Went (lines b) p q (RuleFollowed q F (get_or b.rules i d)) → Went (lines b) o q (RulesFollowed q F (take (i + 1) b.rules))
+  rules_more o p q F i d lt before now =
+      went_then (lines b) o p q (RulesFollowed p F (take i b.rules)) (RuleFollowed q F (get_or b.rules i d)) (RulesFollowed q F (take (i + 1) b.rules)) before now
+      (λ grown each here r in'. ⊎_elim (λ front. rule_followed_more p q F r grown (each r front)) (λ e. subst (RuleFollowed q F) e here) (more_cases b.rules i d lt r in'))
+
+  pub followed_all : (p : Phases) (F : ℕ) → RulesFollowed p F b.rules → Followed (lines b) p F
+  followed_all p F each n s allows =
+      let fits = n.number.fits in
+      let long = b.numbered.0 in
+      let at = get_or_default b.rules n.number.value (Some (rule.Notice n)) None (omega arith) ∙ (notice_stands b n).0 s in
+      each (Some (rule.Notice n)) (n.number.value, omega arith, at) n refl allows
+
+-- a notice that can be carried out leads on
+pub next_by : (r : Option Rule) (n : NoticeLine) (F G : ℕ) → r ≡ Some (rule.Notice n) → Allows n F → G ≡ after n F → NextBy r F (Some G)
+next_by r n F G is allows to = record {
+  just = λ H e. (n, is, allows, sym (some_same G H e) ∙ to);
+  all = λ m e _. let same : n ≡ m = cc in ap Some (to ∙ ap (λ o. after o F) same);
+}

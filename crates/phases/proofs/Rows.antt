@@ -1,17 +1,15 @@
--- The first rows of a table. Assumes nothing.
-use Rattle.std.proofs.Common.{◌≡◌, ℕ, ◌<◌, ◌≤◌, List, length, get_or, take, sym, ◌∙◌, arith}
-use Rattle.std.specs.List.{ContainsAt as Has}
-use Rattle.std.proofs.lemmas.List.{length-take-le, get_or-take, get_or_default}
+-- The rows of a table up to a place, and one row more. Assumes nothing.
+use Rattle.std.proofs.Common.{◌≡◌, ℕ, ◌+◌, ◌<◌, ◌⊎◌, List, [], ◌∷◌, length, get_or, take, sym, subst}
+use Rattle.std.specs.List.{Contains}
+use Rattle.std.proofs.lemmas.List.{take_more}
+use Rattle.std.proofs.lemmas.List.Elements.{Contains-append_left, Contains-push, Contains-push_cases}
 
-module _ {X : Type 0} (xs : List X) (n : ℕ) (d x : X) (few : n ≤ length xs) where
-  pub row_has : (k : ℕ) → k < n → get_or xs k d ≡ x → Has (take n xs) x
-  row_has k lt is =
-      let long = length-take-le n xs few in
-      (k, omega arith, λ e. get_or-take n xs k e lt ∙ get_or_default xs k e d (omega arith) ∙ is)
+module _ {X : Type 0} (xs : List X) (i : ℕ) (d : X) (lt : i < length xs) where
+  pub more_front : (x : X) → Contains (take i xs) x → Contains (take (i + 1) xs) x
+  more_front x h = subst (λ ys. Contains ys x) (sym (take_more xs i d lt)) (Contains-append_left (take i xs) (get_or xs i d ∷ []) x h)
 
-  pub has_row : Has (take n xs) x → (k : ℕ) × (k < n) × (get_or xs k d ≡ x)
-  has_row h =
-      let long = length-take-le n xs few in
-      let lt = h.1 in
-      let less : h.0 < n = omega arith in
-      (h.0, less, sym (get_or-take n xs h.0 d less) ∙ h.2 d)
+  pub more_last : Contains (take (i + 1) xs) (get_or xs i d)
+  more_last = subst (λ ys. Contains ys (get_or xs i d)) (sym (take_more xs i d lt)) (Contains-push (take i xs) (get_or xs i d))
+
+  pub more_cases : (x : X) → Contains (take (i + 1) xs) x → Contains (take i xs) x ⊎ (get_or xs i d ≡ x)
+  more_cases x h = Contains-push_cases (take i xs) (get_or xs i d) x (subst (λ ys. Contains ys x) (take_more xs i d lt) h)

@@ -1,12 +1,12 @@
 -- How the table of phases grows while they are listed.
-use Rattle.std.specs.Prelude.{◌≡◌, ℕ, ◌+◌, ◌<◌, ◌≤◌, ◌⊎◌, List, slice_index_or, slice_set}
+use Rattle.std.specs.Prelude.{◌≡◌, ℕ, ◌+◌, ◌<◌, ◌≤◌, ◌⊎◌, List, Some, Option, slice_set}
 use Rattle.text.specs.declared.line.NoticeLine.{NoticeLine}
+use Rattle.text.specs.declared.line.Rule.{Rule}
+use Rattle.text.specs.declared.line.Rule.TheVariants as rule
 use Rattle.text.specs.declared.line.Line.{Line}
 use Rattle.text.specs.declared.line.Line.TheVariants.{Notice, Open}
 use Rattle.deduction.specs.Counting.{Different, Outnumber}
 use Rattle.model.specs.Phases.{Stands, Allows, after, Opened}
-use Rattle.book.specs.declared.rule.Rule.TheVariants as rule
-use Rattle.book.specs.declared.tables.Book.{Book}
 use Rattle.phases.specs.declared.table.Phases.{Phases}
 use Rattle.phases.specs.declared.refusal.PhaseRefusal.{PhaseRefusal}
 use Rattle.phases.specs.declared.refusal.PhaseRefusal.TheVariants.{TooMany}
@@ -52,9 +52,14 @@ Stuck ls e = (e ≡ TooMany) × Outnumber (Opened ls) 32
 abbrev pub Started : List Line → Phases → Type 0
 Started ls p = (F : ℕ) → Stands ls (Open F) → Holds p F
 
--- the phase after F by the rule at this place is there
-abbrev pub RuleFollowed : Book → Phases → ℕ → ℕ → Type 0
-RuleFollowed b p F place = (n : NoticeLine) → slice_index_or b.rules place rule.Free ≡ rule.Notice n → Allows n F → Holds p (after n F)
+-- o is the phase after F by the rule, if that is a notice which can be carried out
+pub record NextBy (r : Option Rule) (F : ℕ) (o : Option ℕ) : Type 0 where
+  pub just : (G : ℕ) → o ≡ Some G → (n : NoticeLine) × (r ≡ Some (rule.Notice n)) × Allows n F × (G ≡ after n F)
+  pub all : (n : NoticeLine) → r ≡ Some (rule.Notice n) → Allows n F → o ≡ Some (after n F)
+
+-- the phase after F by the rule, if that is a notice, is there
+abbrev pub RuleFollowed : Phases → ℕ → Option Rule → Type 0
+RuleFollowed p F r = (n : NoticeLine) → r ≡ Some (rule.Notice n) → Allows n F → Holds p (after n F)
 
 -- each phase after F by a notice is there
 abbrev pub Followed : List Line → Phases → ℕ → Type 0

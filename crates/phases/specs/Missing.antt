@@ -1,12 +1,14 @@
 -- The numbers that a book's lines name, and those among them under which nothing stands.
-use Rattle.std.specs.Prelude.{◌≡◌, ℕ, ◌<◌, ◌≤◌, ◌⊎◌, List, Some, slice_index, slice_index_or}
+use Rattle.std.specs.Prelude.{◌≡◌, ℕ, ◌≤◌, ◌⊎◌, List, Some, None, Option}
+use Rattle.std.specs.List.{Contains}
+use Rattle.grade.specs.declared.upto.UpTo.{UpTo}
 use Rattle.text.specs.declared.line.NoticeLine.{NoticeLine}
+use Rattle.text.specs.declared.line.Rule.{Rule}
+use Rattle.text.specs.declared.line.Rule.TheVariants as rule
 use Rattle.text.specs.declared.line.Line.{Line}
 use Rattle.text.specs.declared.line.Line.TheVariants.{Order, Notice, Open, Watch, Link, End, Bare}
 use Rattle.model.specs.Phases.{Stands, InForce}
 use Rattle.model.specs.Laws.{rule_number}
-use Rattle.book.specs.declared.rule.Rule.TheVariants as rule
-use Rattle.book.specs.declared.tables.Book.{Book}
 
 -- a notice names its own number, the one that it withdraws and the one that it puts in force; an open line, those of its phase
 abbrev pub Mentions : Line → ℕ → Type 0
@@ -40,20 +42,21 @@ pub record LeastMissing (ls : List Line) (m : ℕ) : Type 0 where
 
 -- ---- on the way there
 
+-- how many numbers are below the least; 64, which is all of them, where there is none
+abbrev pub below : Option (UpTo 63) → ℕ
+below None = 64
+below (Some n) = n.value
+
 -- r is the least of `least` and the numbers that are P and not accepted
-pub record Lowered (ls : List Line) (P : ℕ → Type 0) (least r : ℕ) : Type 0 where
-  pub low : r ≤ least
-  pub one : (r ≡ least) ⊎ (P r × (Accepted ls r → ⊥))
-  pub all : (m : ℕ) → P m → (Accepted ls m → ⊥) → r ≤ m
+pub record Lowered (ls : List Line) (P : ℕ → Type 0) (least r : Option (UpTo 63)) : Type 0 where
+  pub low : below r ≤ below least
+  pub one : (r ≡ least) ⊎ (P (below r) × (Accepted ls (below r) → ⊥))
+  pub all : (m : ℕ) → P m → (Accepted ls m → ⊥) → below r ≤ m
 
--- the rule at this place is a notice that names m
-abbrev pub RuleMentions : Book → ℕ → ℕ → Type 0
-RuleMentions b place m = (n : NoticeLine) × (slice_index_or b.rules place rule.Free ≡ rule.Notice n) × Mentions (Notice n) m
+-- the rule is a notice that withdraws m or puts m in force
+abbrev pub RuleMentions : Option Rule → ℕ → Type 0
+RuleMentions r m = (n : NoticeLine) × (r ≡ Some (rule.Notice n)) × ((n.loses.value ≡ m) ⊎ (n.gains.value ≡ m))
 
--- one of the rules at the first places names m
-abbrev pub RulesMention : Book → ℕ → ℕ → Type 0
-RulesMention b places m = (k : ℕ) × (k < places) × RuleMentions b k m
-
--- one of the first open lines does
-abbrev pub OpensMention : Book → ℕ → ℕ → Type 0
-OpensMention b count m = (k : ℕ) × (k < count) × InForce (slice_index b.opens k) m
+-- one of these names m, by what P says of each
+abbrev pub AnyMentions : {X : Type 0} → (X → ℕ → Type 0) → List X → ℕ → Type 0
+AnyMentions {X} P xs m = (x : X) × Contains xs x × P x m

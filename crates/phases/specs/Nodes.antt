@@ -1,5 +1,6 @@
 -- Sets of nodes of the watch, as marks in a table.
-use Rattle.std.specs.Prelude.{◌≡◌, ℕ, ◌<◌, Bool, true, false, ◌↔◌, List, length, slice_index_or}
+use Rattle.std.specs.Prelude.{◌≡◌, ℕ, Bool, true, false, ◌↔◌, List, length, Some, Option, IfSome, slice_index_or}
+use Rattle.std.specs.List.{Contains}
 use Rattle.grade.specs.declared.upto.UpTo.{UpTo}
 use Rattle.text.specs.declared.line.WatchLine.{WatchLine}
 use Rattle.text.specs.declared.line.LinkLine.{LinkLine}
@@ -50,6 +51,8 @@ LeadsFrom ls P w = (t : ℕ) × P t × Leads ls t w
 
 -- ---- on the way there
 
--- one of the first rows fits and goes to the node t
-abbrev pub ByRows : {X : Type 0} → List X → X → (X → Type 0) → (X → ℕ) → ℕ → ℕ → Type 0
-ByRows rows d fits to count t = (k : ℕ) × (k < count) × fits (slice_index_or rows k d) × (to (slice_index_or rows k d) ≡ t)
+-- what is answered at each row is marked, if it is a node, and no other node is
+pub record MarkedBy {X : Type 0} (Answers : X → Option (UpTo 63) → Type 0) (rows : List X) (s : List Bool) : Type 0 where
+  pub long : length s ≡ 64
+  pub just : (t : ℕ) → Marked s t → (x : X) × Contains rows x × (u : UpTo 63) × Answers x (Some u) × (u.value ≡ t)
+  pub all : (x : X) → Contains rows x → (r : Option (UpTo 63)) × Answers x r × IfSome r (λ u. Marked s u.value)

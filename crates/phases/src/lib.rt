@@ -7,6 +7,5 @@ mod nodes;
 pub mod opening;
 pub mod position;
 pub mod refusal;
-mod sets;
 pub mod table;
 pub mod watch;

@@ -1,78 +1,68 @@
 // The least number that a notice or an open line names and under which nothing stands.
-ghost use Rattle.std.specs.Prelude.{◌≡◌, ◌<◌, ◌≤◌, Decides, MatchOption};
+ghost use Rattle.std.specs.Prelude.{◌≡◌, Decides, MatchOption};
 ghost use Rattle.model.specs.Phases.{InForce};
 ghost use Rattle.book.specs.Lines.{lines};
-ghost use Rattle.phases.specs.Missing.{RuleMentions, Accepted, LeastMissing, NoneMissing, Lowered};
+ghost use Rattle.phases.specs.Missing.{Accepted, LeastMissing, NoneMissing, Lowered, RuleMentions};
 
-use crate::sets::contains;
-use book::rule::Rule;
 use book::tables::Book;
-
-// How many numbers there are; as a least number, it stands for none.
-const NUMBERS: usize = 64;
+use grade::upto::UpTo;
+use text::line::{Number, Rule};
+use text::phase::contains;
 
 // Whether an order or a notice has this number.
-fn accepts(book: &Book, number: usize) -> bool
-    requires { number < 64 }
-    ensures { Decides result (Accepted (lines book.now) number) }
+fn accepts(book: &Book, number: Number) -> bool
+    ensures { Decides result (Accepted (lines book.now) number.value) }
 {
-    let rule = book.rules[number];
-    match rule {
-        Rule::Free => false,
-        Rule::Order(_) | Rule::Notice(_) => true,
-    }
+    book.rules[usize::from(number)].is_some()
 }
 
-// The lesser of the two numbers, where nothing stands under the second; else the first.
-fn lower(book: &Book, least: usize, number: usize) -> usize
-    requires { number < 64 }
-    ensures { Lowered (lines book.now) (λ m. number ≡ m) least result }
+// The lesser of the two numbers, where nothing stands under the second; else the first, if any.
+fn lower(book: &Book, least: Option<Number>, number: Number) -> Option<Number>
+    ensures { Lowered (lines book.now) (λ m. number.value ≡ m) least result }
 {
-    if number < least && !accepts(book, number) {
-        number
-    } else {
-        least
+    if accepts(book, number) {
+        return least;
     }
+    Some(least.map_or(number, |least| least.min(number)))
 }
 
-// The least of `least` and what is missing of the numbers that the rule at this place names. A notice's own number stands.
-fn lower_by_rule(book: &Book, least: usize, place: usize) -> usize
-    requires { place < 64 }
-    ensures { Lowered (lines book.now) (RuleMentions book.now place) least result }
+// The least of `least` and what is missing of the numbers that the rule, if it is a notice, withdraws and puts in force.
+fn lower_by_rule(book: &Book, least: Option<Number>, rule: &Option<Rule>) -> Option<Number>
+    ensures { Lowered (lines book.now) (RuleMentions rule.now) least result }
 {
-    let rule = book.rules[place];
     match rule {
-        Rule::Free | Rule::Order(_) => least,
-        Rule::Notice(notice) => {
-            let least = lower(book, least, notice.loses.get() as usize);
-            lower(book, least, notice.gains.get() as usize)
+        None | Some(Rule::Order(_)) => least,
+        Some(Rule::Notice(notice)) => {
+            let least = lower(book, least, notice.loses);
+            lower(book, least, notice.gains)
         }
     }
 }
 
 // The least of `least` and what is missing of the numbers in the phase.
-fn lower_by_phase(book: &Book, least: usize, phase: u64) -> usize
-    requires { least ≤ 64 }
+fn lower_by_phase(book: &Book, least: Option<Number>, phase: u64) -> Option<Number>
     ensures { Lowered (lines book.now) (InForce phase) least result }
 {
-    for number in 0..least {
+    let end = least.map_or(64, |number| number.value);
+    for value in 0..end {
+        let number = UpTo { value };
         if contains(phase, number) && !accepts(book, number) {
-            return number;
+            return Some(number);
         }
     }
     least
 }
 
-// The least number that is named and not accepted.
-pub(crate) fn least_missing(book: &Book) -> Option<usize>
-    ensures { MatchOption result (NoneMissing (lines book.now)) (LeastMissing (lines book.now)) }
+// The least number that is named and not accepted. A notice names its own number too, and that is accepted.
+pub(crate) fn least_missing(book: &Book) -> Option<Number>
+    ensures { MatchOption result (NoneMissing (lines book.now)) (λ n. LeastMissing (lines book.now) n.value) }
 {
-    let mut least = NUMBERS;
-    for place in 0..NUMBERS {
-        least = lower_by_rule(book, least, place);
+    let mut least = None;
+    for rule in &book.rules {
+        least = lower_by_rule(book, least, rule);
     }
-    for i in 0..book.opening {
-        least = lower_by_phase(book, least, book.opens[i]);
+    for phase in book.opens_in_use() {
+        least = lower_by_phase(book, least, *phase);
     }
-    if least < NUMBERS { Some(least) } else { None }
+    least
 }

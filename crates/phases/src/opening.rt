@@ -1,29 +1,24 @@
 // Listing the opened phases of a book.
-ghost use Rattle.std.specs.Prelude.{◌<◌, MatchOption, MatchResult};
+ghost use Rattle.std.specs.Prelude.{MatchOption, MatchResult};
 ghost use Rattle.model.specs.Phases.{Opened};
 ghost use Rattle.book.specs.Lines.{lines};
 ghost use Rattle.phases.specs.Table.{Holds, FirstAt, OpenedBy};
 ghost use Rattle.phases.specs.Refusals.{PhasesRefused, PhasesAllowed, phase_number, phase_place};
-ghost use Rattle.phases.specs.Growth.{Added, Lacking, Found, Went, Stuck, Started, RuleFollowed, Followed, Closed};
+ghost use Rattle.phases.specs.Growth.{Added, Lacking, Found, Went, Stuck, Started, NextBy, Followed, Closed};
 
 use crate::missing::least_missing;
 use crate::refusal::PhaseRefusal;
 use crate::table::Phases;
-use book::rule::Rule;
 use book::tables::Book;
 use moves::phase::{after_notice, allowed};
+use text::line::Rule;
 
 impl Phases {
     // The place of a phase: the first, where it stands at several.
     pub fn phase_index(&self, phase: u64) -> Option<usize>
         ensures { MatchOption result (Holds self.now phase → ⊥) (FirstAt self.now phase) }
     {
-        for i in 0..self.count {
-            if self.table[i] == phase {
-                return Some(i);
-            }
-        }
-        None
+        self.in_use().iter().position(|opened| *opened == phase)
     }
 
     // Puts a phase behind the others, unless it is one of them.
@@ -51,36 +46,19 @@ fn start(book: &Book, phases: &mut Phases) -> Result<(), PhaseRefusal>
         (λ _. Went (lines book.now) phases.old phases.new (Started (lines book.now) phases.new))
         (Stuck (lines book.now)) }
 {
-    for i in 0..book.opening {
-        phases.add(book.opens[i])?;
+    for phase in book.opens_in_use() {
+        phases.add(*phase)?;
     }
     Ok(())
 }
 
-// Adds the phase after this one by the rule at a place, if that is a notice which can be carried out.
-fn follow_rule(
-    book: &Book,
-    phases: &mut Phases,
-    phase: u64,
-    place: usize,
-) -> Result<(), PhaseRefusal>
-    requires place { place < 64 }
-    requires found { Found (lines book.now) phases.old }
-    requires opened { Opened (lines book.now) phase }
-    ensures { MatchResult result
-        (λ _. Went (lines book.now) phases.old phases.new (RuleFollowed book.now phases.new phase place))
-        (Stuck (lines book.now)) }
+// The phase after this one by the rule, if that is a notice which can be carried out.
+fn next_phase(rule: &Option<Rule>, phase: u64) -> Option<u64>
+    ensures { NextBy rule.now phase result }
 {
-    let rule = book.rules[place];
     match rule {
-        Rule::Free | Rule::Order(_) => Ok(()),
-        Rule::Notice(notice) => {
-            if allowed(&notice, phase) {
-                phases.add(after_notice(phase, &notice))
-            } else {
-                Ok(())
-            }
-        }
+        Some(Rule::Notice(notice)) if allowed(notice, phase) => Some(after_notice(phase, notice)),
+        _ => None,
     }
 }
 
@@ -92,8 +70,10 @@ fn follow(book: &Book, phases: &mut Phases, phase: u64) -> Result<(), PhaseRefus
         (λ _. Went (lines book.now) phases.old phases.new (Followed (lines book.now) phases.new phase))
         (Stuck (lines book.now)) }
 {
-    for place in 0..64 {
-        follow_rule(book, phases, phase, place)?;
+    for rule in &book.rules {
+        if let Some(next) = next_phase(rule, phase) {
+            phases.add(next)?;
+        }
     }
     Ok(())
 }
@@ -105,9 +85,10 @@ fn close(book: &Book, phases: &mut Phases) -> Result<(), PhaseRefusal>
         (λ _. Went (lines book.now) phases.old phases.new (Closed (lines book.now) phases.new phases.new.count))
         (Stuck (lines book.now)) }
 {
+    // an index: the table grows while it is gone through
     let mut done = 0;
-    while done < phases.count {
-        follow(book, phases, phases.table[done])?;
+    while let Some(phase) = phases.in_use().get(done).copied() {
+        follow(book, phases, phase)?;
         done += 1;
     }
     Ok(())
@@ -120,7 +101,7 @@ pub fn open_phases(book: &Book) -> Result<Phases, PhaseRefusal>
         (λ e. PhasesRefused (lines book.now) (phase_number e) (phase_place e)) }
 {
     if let Some(number) = least_missing(book) {
-        return Err(PhaseRefusal::NotAccepted(number));
+        return Err(PhaseRefusal::NotAccepted(usize::from(number)));
     }
     let mut phases = Phases {
         table: [0; 32],

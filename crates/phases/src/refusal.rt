@@ -2,7 +2,7 @@
 ghost use Rattle.std.specs.Prelude.{◌≡◌};
 
 // Why the phases of a book are not listed.
-#[derive(Clone, Copy)]
+#[derive(Clone, Copy, PartialEq, Eq, Debug)]
 pub enum PhaseRefusal {
     // a notice or an open line names this number, under which no order or notice stands
     NotAccepted(usize),
@@ -35,7 +35,7 @@ impl PhaseRefusal {
 }
 
 // Why it is not told whether the watch holds a position.
-#[derive(Clone, Copy)]
+#[derive(Clone, Copy, PartialEq, Eq, Debug)]
 pub enum PositionRefusal {
     // the mode or a wagon is above its limit, or the lane is too long
     TooLarge,

@@ -12,20 +12,13 @@ use crate::position::Position;
 use crate::refusal::PositionRefusal;
 use crate::table::Phases;
 use book::tables::Book;
+use moves::lane::are_wagons;
 
 // Whether the mode and each wagon are within their limits, and the lane is not too long.
 pub fn fits(position: &Position) -> bool
     ensures { Decides result (Fits position.now.mode position.now.lane.now) }
 {
-    if position.mode > 15 || position.lane.len() > 32 {
-        return false;
-    }
-    for wagon in position.lane {
-        if *wagon > 31 {
-            return false;
-        }
-    }
-    true
+    position.mode <= 15 && position.lane.len() <= 32 && are_wagons(position.lane)
 }
 
 // Whether the watch holds the position, by the book and its opened phases. With any other phases, those count as opened that
@@ -37,7 +30,7 @@ pub fn held(book: &Book, phases: &Phases, position: &Position) -> Result<bool, P
     if !fits(position) {
         return Err(PositionRefusal::TooLarge);
     }
-    if phases.phase_index(position.phase).is_none() {
+    if !phases.in_use().contains(&position.phase) {
         return Err(PositionRefusal::NotOpened);
     }
     Ok(takes(book, position.mode, position.lane))

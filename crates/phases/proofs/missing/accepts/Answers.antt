@@ -1,22 +1,18 @@
-use Rattle.std.proofs.Common.{refl, ◌∙◌, ⊎_elim, arith}
+use Rattle.std.proofs.Common.{◌<◌, ◌∙◌, Decides, None, get_or, sym, ap, subst, arith}
+use Rattle.std.specs.Option.{is_some}
 use Rattle.std.proofs.lemmas.List.{get_or_default}
-use Rattle.std.proofs.lemmas.Bool.{false≢true}
-use Rattle.book.specs.declared.rule.Rule.TheVariants.{Free}
-use Rattle.phases.proofs.Naming.{accepted_order, accepted_notice, not_accepted}
+use Rattle.book.specs.Lines.{lines}
+use Rattle.phases.specs.Missing.{Accepted}
+use Rattle.phases.proofs.Naming.{accepted_at}
 use Rattle.phases.proofs.missing.accepts.Goals as goal
 
-pub returns-in-Free : goal.returns-in-Free
-returns-in-Free c =
+pub returns : goal.returns
+returns c =
     let b = c.args.book.now in
-    let n = c.args.number in
+    let n = c.args.number.value in
+    let fits = c.args.number.fits in
     let long = b.numbered.0 in
-    let is = get_or_default b.rules n Free c.index-book-number.result (omega arith) ∙ c.in-Free.is in
-    (λ e. absurd (false≢true e), λ h. absurd (not_accepted b n c.requires is h))
-
-pub returns-in-Order : goal.returns-in-Order
-returns-in-Order c =
-    let b = c.args.book.now in
-    let n = c.args.number in
-    let long = b.numbered.0 in
-    let same = get_or_default b.rules n Free c.index-book-number.result (omega arith) in
-    (λ _. ⊎_elim (λ o. accepted_order b n c.requires o.0 (same ∙ o.1)) (λ o. accepted_notice b n c.requires o.0 (same ∙ o.1)) c.in-Order.is, λ _. refl)
+    let lt : n < 64 = omega arith in
+    let at = get_or_default b.rules c.from.result None c.index-book-from.result (let e = c.from.ensures in omega arith) in
+    subst (λ r. Decides r (Accepted (lines b) n)) (sym (c.is_some.ensures ∙ ap is_some (sym at)))
+    (accepted_at b n lt (get_or b.rules c.from.result None) (ap (λ k. get_or b.rules k None) (sym c.from.ensures)))

@@ -1,10 +1,11 @@
+use Rattle.std.proofs.Common.{take, None}
+use Rattle.model.specs.Phases.{InForce}
 use Rattle.book.specs.Lines.{lines}
-use Rattle.phases.specs.Missing.{Lowered, RulesMention, OpensMention}
+use Rattle.phases.specs.Missing.{Lowered, RuleMentions, AnyMentions}
 use Rattle.phases.proofs.missing.least_missing.Given as goal
-use Rattle.std.proofs.Common.{◌⊎◌}
 
-abbrev pub invariant-loop-place : goal.invariant-loop-place
-invariant-loop-place l = Lowered (lines l.book) (RulesMention l.book l.place) 64 l.least
+abbrev pub invariant-loop-rule : goal.invariant-loop-rule
+invariant-loop-rule l = Lowered (lines l.book) (AnyMentions RuleMentions (take l.rule-index l.book.rules)) None l.least
 
-abbrev pub invariant-loop-i : goal.invariant-loop-i
-invariant-loop-i l = Lowered (lines l.book) (λ m. RulesMention l.book 64 m ⊎ OpensMention l.book l.i m) 64 l.least
+abbrev pub invariant-loop-phase : goal.invariant-loop-phase
+invariant-loop-phase l = Lowered (lines l.book) (AnyMentions InForce (take l.phase-index l.phase-items)) l.initial.least l.least

@@ -1,4 +1,4 @@
-use Rattle.std.proofs.Common.{◌≡◌, ◌-◌, ◌≤◌, length, get_or, take, drop, sym, subst, rules}
+use Rattle.std.proofs.Common.{◌≡◌, ℕ, ◌-◌, ◌≤◌, false, length, get_or, take, drop, sym, ap, ◌∙◌, subst, rules}
 use Rattle.std.proofs.lemmas.List.{nil_from_length}
 use Rattle.book.specs.Lines.{lines}
 use Rattle.phases.specs.Nodes.{Marked, Enters}
@@ -12,7 +12,8 @@ returns-in-empty c =
     let mode = c.args.mode in
     let short : length c.args.lane.now ≡ 0 = search rules in
     let none = nil_from_length c.args.lane.now short in
-    (λ e. subst (Takes (lines b) mode) (sym none) (bare_takes b mode c.requires e), λ h. takes_bare b mode (subst (Takes (lines b) mode) none h))
+    let mark = λ (k : ℕ). get_or b.bares k false in
+    (λ e. subst (Takes (lines b) mode) (sym none) (bare_takes b mode c.requires (ap mark (sym c.from.ensures) ∙ e)), λ h. ap mark c.from.ensures ∙ takes_bare b mode (subst (Takes (lines b) mode) none h))
 
 pub returns-in-len1-up : goal.returns-in-len1-up
 returns-in-len1-up c =

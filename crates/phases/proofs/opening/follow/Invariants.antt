@@ -1,7 +1,8 @@
-use Rattle.std.proofs.Common.{ℕ, ◌<◌}
+use Rattle.std.proofs.Common.{take}
 use Rattle.book.specs.Lines.{lines}
-use Rattle.phases.specs.Growth.{Went, RuleFollowed}
+use Rattle.phases.specs.Growth.{Went}
+use Rattle.phases.proofs.Listing.{RulesFollowed}
 use Rattle.phases.proofs.opening.follow.Given as goal
 
-abbrev pub invariant-loop-place : goal.invariant-loop-place
-invariant-loop-place l = Went (lines l.book) l.initial.phases l.phases ((k : ℕ) → k < l.place → RuleFollowed l.book l.phases l.phase k)
+abbrev pub invariant-loop-rule : goal.invariant-loop-rule
+invariant-loop-rule l = Went (lines l.book) l.initial.phases l.phases (RulesFollowed l.phases l.phase (take l.rule-index l.book.rules))
