@@ -1,33 +1,30 @@
 -- Phases in use, and what is asked of them.
-use Rattle.std.proofs.Common.{◌≡◌, ℕ, ◌+◌, ◌*◌, ◌<◌, ◌≤◌, List, length, get_or, IfErr, Ok, Err, Result, sym, refl, ap, ◌∙◌, subst, ⊎_elim, arith}
+use Rattle.std.proofs.Common.{◌≡◌, ℕ, ◌+◌, ◌<◌, ◌≤◌, List, length, take, reverse, get_or, Ok, Err, Some, None, Option, MatchOption, Result, OnErr, IfErr, sym, refl, ap, ◌∙◌, subst, ⊎_elim, arith}
+use Rattle.std.specs.Option.{ok_or}
 use Rattle.std.proofs.lemmas.List.{length-take-le, get_or-take}
 use Rattle.std.proofs.lemmas.Bool.{cases_lt}
 use Rattle.grade.specs.declared.grade.Grade.{Ghosts}
-use Rattle.grade.specs.Lawful.{Lawful}
 use Rattle.deduction.specs.Counting.{Different}
 use Rattle.text.specs.declared.line.Line.{Line}
 use Rattle.model.specs.Phases.{Opened}
-use Rattle.model.specs.Moves.{Position, at, Move}
-use Rattle.model.specs.Watch.{Reaches}
-use Rattle.model.specs.Grades.{RunGrade, Best}
+use Rattle.model.specs.Moves.{Position}
+use Rattle.model.specs.Grades.{Best}
 use Rattle.rows.specs.Rows.{head}
-use Rattle.rows.specs.Ways.{Way}
-use Rattle.rows.proofs.Graded.{saturated_best, saturated_some}
 use Rattle.phases.specs.declared.table.Phases.{Phases}
 use Rattle.phases.specs.Table.{phase_at, used, FirstAt, OpenedBy}
-use Rattle.phases.specs.Held.{Fits}
 use Rattle.rowtable.specs.declared.row.TableState.{TableState}
 use Rattle.rowtable.specs.declared.row.TableState.TheVariants.{Head}
 use Rattle.rowtable.specs.declared.row.TableRow.{TableRow}
-use Rattle.rowtable.specs.Tables.{state_of, Exists, Held}
-use Rattle.rowtable.specs.Paths.{RowsSay}
+use Rattle.rowtable.specs.Tables.{state_of}
+use Rattle.rowtable.specs.Paths.{RowPath, RowsSay}
 use Rattle.rowtable.specs.Saturated.{SaturatedTable}
 use Rattle.paths.specs.declared.refusal.PathRefusal.{PathRefusal}
-use Rattle.paths.specs.declared.refusal.PathRefusal.TheVariants.{TooLarge, NotOpened, ScratchShort, ListShort, NoWay, BrokenRow}
-use Rattle.paths.specs.Answers.{needed, Asked, path_number, Unasked}
-use Rattle.paths.specs.Outcomes.{Starts, RowsSayOf, RowsUntold, RowsUnlaid, RunsUntold}
-use Rattle.paths.specs.Cells.{width, Sound}
-use Rattle.paths.proofs.Bridge.{best_way, no_way}
+use Rattle.paths.specs.declared.refusal.PathRefusal.TheVariants.{NoWay}
+use Rattle.paths.specs.Answers.{Asked, path_number}
+use Rattle.paths.specs.Outcomes.{Starts, RowsSayOf, BestRowsTold, RowsLaidTold}
+use Rattle.paths.specs.Cells.{Sound}
+use Rattle.paths.specs.Layers.{BestSaid}
+use Rattle.paths.proofs.Taken.{best_of_cut, path_of_cut}
 
 -- rows that are saturated lead between states that exist
 pub saturated_sound : {G : Type 0} (m : Ghosts G) (ls : List Line) (Fs : List ℕ) (rows : List (TableRow G)) (n : ℕ) → SaturatedTable m ls Fs rows n → Sound m Fs rows n
@@ -36,9 +33,6 @@ saturated_sound m ls Fs rows n table = record { enough = table.enough; from = λ
 module _ (p : Phases) where
   pub used_length : length (used p) ≡ p.count
   used_length = let long = p.places.0 in let few = p.places.1 in length-take-le p.count p.table (omega arith)
-
-  pub used_few : length (used p) ≤ 32
-  used_few = let e = used_length in let few = p.places.1 in omega arith
 
   used_at : (k : ℕ) → k < p.count → get_or (used p) k 0 ≡ phase_at p k
   used_at k lt = get_or-take p.count p.table k 0 lt
@@ -50,16 +44,6 @@ module _ (p : Phases) where
         apart = λ k l lt less same. opened.filled.different.apart k l (omega arith) (omega arith) (sym (used_at k (omega arith)) ∙ same ∙ used_at l (omega arith));
         each = λ k lt. subst (Opened ls) (sym (used_at k (omega arith))) (opened.filled.different.each k (omega arith));
       }
-
-  pub needed_width : (lane : List ℕ) → needed p lane ≡ (length lane + 1) * width (used p)
-  needed_width lane = ap (λ n. (length lane + 1) * (16 * n + 64)) (sym used_length)
-
-  pub ready : (mode phase : ℕ) (lane : List ℕ) (places place : ℕ) → Fits mode lane → FirstAt p phase place → needed p lane ≤ places
-      → Asked p (at mode phase lane) places × (Exists (used p) (Head mode place) × Starts p (at mode phase lane) (Head mode place))
-  ready mode phase lane places place fits first room =
-      let e = used_length in
-      let lt = first.within in
-      (record { fits = fits; opened = (place, lt, first.here); room = room }, ((fits.mode_fits, omega arith), (place, (refl, first))))
 
   -- a phase stands first at one place
   first_once : (F i j : ℕ) → FirstAt p F i → FirstAt p F j → i ≡ j
@@ -84,52 +68,41 @@ module _ (p : Phases) where
       pub none_of : ((v : G) → RowsSay m ls rows n s x.lane v → ⊥) → (v : G) → RowsSayOf m ls p rows n x v → ⊥
       none_of none v (t, (other, say)) = none v (subst (λ q. RowsSay m ls rows n q x.lane v) (starts_once t other) say)
 
-      -- over the saturated rows, the best that they say is the best run, and where they say nothing there is no run
-      module _ (lawful : Lawful m) (opened : OpenedBy ls p) (exists : Exists (used p) s) (table : SaturatedTable m ls (used p) rows n) where
-        is_open : Opened ls x.phase
-        is_open = subst (Opened ls) starts.1.1.here (opened.filled.different.each starts.0 starts.1.1.within)
+-- What is told of the start, over the rows in use, is told of the position, over the table's first rows.
+module _ {G : Type 0} (m : Ghosts G) (ls : List Line) (p : Phases) (rows : List (TableRow G)) (n : ℕ) (x : Position) (places : ℕ) (asked : Asked p x places) (sound : Sound m (used p) rows n)
+    (s : TableState) (starts : Starts p x s) where
+  best_in_use : {ks : List Line} {in_use : List (TableRow G)} → ks ≡ ls → in_use ≡ take n rows → (o : Option G) → BestSaid m ks in_use (length in_use) s x.lane o → BestSaid m ls rows n s x.lane o
+  best_in_use {ks} same is o said =
+      best_of_cut m rows n sound.enough ls s x.lane o (subst (λ k. BestSaid m k (take n rows) (length (take n rows)) s x.lane o) same (subst (λ r. BestSaid m ks r (length r) s x.lane o) is said))
 
-        pub best_run : (v : G) → Best m (RowsSay m ls rows n s x.lane) v → Best m (RunGrade m ls x) v
-        best_run v best =
-            (saturated_best lawful table.saturated x is_open v).0
-            (subst (λ t. Best m (Way m ls (Held (used p) rows n) t x.lane) v) start_head (best_way ls (used p) (opened_opens ls opened) m rows n (saturated_sound m ls (used p) rows n table) x.lane s v exists best))
+  by_grade : (o : Option G) → BestSaid m ls rows n s x.lane o → BestRowsTold m ls p rows n x places (ok_or o NoWay)
+  by_grade None none = (asked, (sound, none_of p x s starts m ls rows n none))
+  by_grade (Some v) best = (asked, (sound, best_of p x s starts m ls rows n v best))
 
-        pub no_run : ((v : G) → RowsSay m ls rows n s x.lane v → ⊥) → (ms : List Move) → Reaches ls x ms → ⊥
-        no_run none ms reaches =
-            let (v, way) = (saturated_some lawful table.saturated x is_open).1 (ms, reaches) in
-            no_way ls (used p) (opened_opens ls opened) m rows n (saturated_sound m ls (used p) rows n table) x.lane s exists none v (subst (λ t. Way m ls (Held (used p) rows n) t x.lane v) (sym start_head) way)
+  pub rows_told : {ks : List Line} {in_use : List (TableRow G)} → ks ≡ ls → in_use ≡ take n rows → (o : Option G) → BestSaid m ks in_use (length in_use) s x.lane o → BestRowsTold m ls p rows n x places (ok_or o NoWay)
+  rows_told same is o said = by_grade o (best_in_use same is o said)
 
--- what is refused before anything is read
-module _ {G : Type 0} (m : Ghosts G) (ls : List Line) (p : Phases) (rows : List (TableRow G)) (n : ℕ) (x : Position) (places : ℕ) where
-  pub unasked_untold : (e : PathRefusal) → Unasked p x places e → RowsUntold m ls p rows n x places e
-  unasked_untold TooLarge why = why
-  unasked_untold NotOpened why = why
-  unasked_untold ScratchShort why = why
-  unasked_untold ListShort why = absurd why
-  unasked_untold NoWay why = absurd why
-  unasked_untold BrokenRow why = absurd why
+  laid_by_grade : (list : List ℕ) → length x.lane + n ≤ length list → (o : Option G) → BestSaid m ls rows n s x.lane o
+      → ((v : G) → o ≡ Some v → RowPath m ls rows n s x.lane (reverse (take (length x.lane) list)) v) → RowsLaidTold m ls p rows n x places list (ok_or o NoWay)
+  laid_by_grade list room None none path = (room, (asked, (sound, none_of p x s starts m ls rows n none)))
+  laid_by_grade list room (Some v) best path = (asked, (room, (sound, record { start = s; starts = starts; path = path v refl; best = best_of p x s starts m ls rows n v best })))
 
-  pub unasked_unlaid : (listed : ℕ) (e : PathRefusal) → Unasked p x places e → RowsUnlaid m ls p rows n x places listed e
-  unasked_unlaid listed TooLarge why = why
-  unasked_unlaid listed NotOpened why = why
-  unasked_unlaid listed ScratchShort why = why
-  unasked_unlaid listed ListShort why = absurd why
-  unasked_unlaid listed NoWay why = absurd why
-  unasked_unlaid listed BrokenRow why = absurd why
+  pub rows_laid : {ks : List Line} {in_use : List (TableRow G)} → ks ≡ ls → in_use ≡ take n rows → (list : List ℕ) → length x.lane + n ≤ length list → (o : Option G) → BestSaid m ks in_use (length in_use) s x.lane o
+      → ((v : G) → o ≡ Some v → RowPath m ks in_use (length in_use) s x.lane (reverse (take (length x.lane) list)) v) → RowsLaidTold m ls p rows n x places list (ok_or o NoWay)
+  rows_laid {ks} {in_use} same is list room o said path =
+      let ws = reverse (take (length x.lane) list) in
+      laid_by_grade list room o (best_in_use same is o said)
+      (λ v e. path_of_cut m rows n sound.enough ls (subst (λ k. RowPath m k (take n rows) (length (take n rows)) s x.lane ws v) same (subst (λ r. RowPath m ks r (length r) s x.lane ws v) is (path v e))))
 
-  pub unasked_runs : (e : PathRefusal) → Unasked p x places e → RunsUntold ls x e
-  unasked_runs TooLarge why = tt
-  unasked_runs NotOpened why = tt
-  unasked_runs ScratchShort why = tt
-  unasked_runs ListShort why = absurd why
-  unasked_runs NoWay why = absurd why
-  unasked_runs BrokenRow why = absurd why
+-- what stays as it was where nothing is laid out
+module _ {G : Type 0} {A P : Type 0} (Q : G → Type 0) (to : A → P) where
+  unlaid : (o : Option G) → MatchOption o A Q → OnErr (ok_or o NoWay) P
+  unlaid None laid = to laid
+  unlaid (Some v) laid = tt
 
--- what stays as it was, whatever is told
-pub stays : {G X : Type 0} (n : ℕ) (r : Result G PathRefusal) (a b : X) → a ≡ b → IfErr r (λ e. path_number e < n → a ≡ b)
-stays n (Ok v) a b same = tt
-stays n (Err e) a b same = λ lt. same
+  pub stays : (o : Option G) (r : Result G PathRefusal) → r ≡ ok_or o NoWay → MatchOption o A Q → OnErr r P
+  stays o r is laid = subst (λ q. OnErr q P) (sym is) (unlaid o laid)
 
-pub stays_told : {G X : Type 0} (r : Result G PathRefusal) (a b : X) → a ≡ b → IfErr r (λ _. a ≡ b)
-stays_told (Ok v) a b same = tt
-stays_told (Err e) a b same = same
+pub stays_early : {G : Type 0} (P : Type 0) (n : ℕ) (r : Result G PathRefusal) → OnErr r P → IfErr r (λ e. path_number e < n → P)
+stays_early P n (Ok v) same = tt
+stays_early P n (Err e) same = λ lt. same

@@ -1,5 +1,5 @@
 -- States by number.
-use Rattle.std.proofs.Common.{◌≡◌, ℕ, ◌<◌, true, false, List, ap, arith}
+use Rattle.std.proofs.Common.{◌≡◌, ℕ, ◌<◌, List, ap, arith}
 use Rattle.rowtable.specs.declared.row.TableState.{TableState}
 use Rattle.rowtable.specs.declared.row.TableState.TheVariants.{Node, Head}
 use Rattle.rowtable.specs.Tables.{Exists}
@@ -20,7 +20,3 @@ same_index Fs (Head p i) (Head q j) here there same =
     let e : p ≡ q = omega arith in
     let f : i ≡ j = omega arith in
     cc
-
--- the answer no, where yes would follow
-pub refused : {P : Type 0} → (P → false ≡ true) → (false ≡ true → P) × (P → false ≡ true)
-refused no_way = (λ e. let never : ◌≡◌ {A = ℕ} 0 1 = cc in absurd (omega arith), no_way)

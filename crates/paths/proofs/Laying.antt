@@ -1,6 +1,8 @@
 -- A path laid out row by row.
-use Rattle.std.proofs.Common.{◌≡◌, ℕ, suc, ◌+◌, ◌-◌, ◌*◌, ◌<◌, ◌≤◌, true, T, List, [], ◌∷◌, reverse, length, get_or, take, drop, set, is_some, Some, None, Option, sym, refl, ap, ◌∙◌, subst, zero-mul, add-one, arith}
-use Rattle.std.proofs.lemmas.List.{take_more, reverse-append, length-set, length-drop, drop_more, drop_all, get_or-set_same, get_or-set_other}
+use Rattle.std.proofs.Common.{◌≡◌, ℕ, ◌+◌, ◌-◌, ◌*◌, ◌<◌, ◌≤◌, T, List, [], ◌∷◌, ◌++◌, reverse, length, get_or, take, drop, Some, None, Option, MatchOption, sym, refl, ap, ◌∙◌, subst, arith}
+use Rattle.std.proofs.lemmas.List.{reverse-append, drop_more, length-drop}
+use Rattle.std.proofs.lemmas.Grind.{common_steps}
+use Rattle.std.specs.Prelude.{slice_get}
 use Rattle.grade.specs.declared.grade.Grade.{Ghosts}
 use Rattle.grade.specs.Lawful.{Lawful}
 use Rattle.text.specs.declared.line.Line.{Line}
@@ -8,143 +10,126 @@ use Rattle.rowtable.specs.declared.row.TableState.{TableState}
 use Rattle.rowtable.specs.declared.row.TableRow.{TableRow}
 use Rattle.rowtable.specs.Tables.{Exists, row_at}
 use Rattle.rowtable.specs.Paths.{RowPath, path_end, path_on}
-use Rattle.paths.specs.declared.cell.Cell.{Cell}
-use Rattle.paths.specs.Cells.{width, index, cell_at, Chosen, Says, Layer, Sound}
-use Rattle.paths.specs.Layers.{Onward, Layered, BestSaid}
-use Rattle.paths.proofs.Onward.{First, first_row, path_onward, says_best}
-use Rattle.paths.proofs.Products.{next_layer}
+use Rattle.paths.specs.declared.cell.Step.{Step}
+use Rattle.paths.specs.Cells.{Cell, width, index, cell_at, Chosen, Says, Sound}
+use Rattle.paths.specs.Layers.{Onward, Layered}
+use Rattle.paths.proofs.Layering.{next_layer, cell_read, front_layer}
+use Rattle.paths.proofs.Onward.{First, first_row}
 
--- the grade that is there
-some_is : {G : Type 0} (o : Option G) → is_some o ≡ true → (v : G) × (o ≡ Some v)
-some_is None e = let never : ◌≡◌ {A = ℕ} 0 1 = cc in absurd (omega arith)
-some_is (Some v) e = (v, refl)
+-- a row is there or not
+never_none : {P : Type 0} {k : ℕ} → Some k ≡ None → P
+never_none e = let never : ◌≡◌ {A = ℕ} 0 1 = cc in absurd (omega arith)
 
--- a list's next place is on top of the stack
-stacked : (list : List ℕ) (i k : ℕ) → i < length list → get_or list i 0 ≡ k → k ∷ reverse (take i list) ≡ reverse (take (suc i) list)
-stacked list i k lt top =
-    ap (λ j. j ∷ reverse (take i list)) (sym top) ∙ sym (reverse-append (take i list) (get_or list i 0 ∷ [])) ∙ ap reverse (sym (take_more list i 0 lt)) ∙ ap (λ j. reverse (take j list)) (add-one i)
+module _ {G : Type 0} (m : Ghosts G) (ls : List Line) (rows : List (TableRow G)) (n : ℕ) where
+  -- the list has a path of the grade that the cell has, or is as it was
+  abbrev pub Laid : Cell G → TableState → List ℕ → List ℕ → List ℕ → Type 0
+  Laid c s w old new = MatchOption c (new ≡ old) (λ t. RowPath m ls rows n s w (reverse new) t.grade)
 
-module _ {G : Type 0} (m : Ghosts G) (ls : List Line) (Fs : List ℕ) (rows : List (TableRow G)) (n : ℕ) where
-  -- what the front layer tells of the start
-  pub told_cell : Sound m Fs rows n → (lane : List ℕ) (cells : List (Cell G)) (s : TableState) → Exists Fs s → Layered m ls rows n Fs lane cells 0 → BestSaid m ls rows n s lane (cell_at cells (0 + index Fs s)).grade
-  told_cell sound lane cells s exists layered =
-      let cell = cell_at cells (0 + index Fs s) in
-      says_best m ls rows n lane s cell.grade cell.row
-      (subst (λ b. Says m (Onward m ls rows n lane s) (cell_at cells (b + index Fs s))) (zero-mul (width Fs)) (layered 0 (omega arith) (omega arith) s exists))
+  abbrev On : List ℕ → TableState → Option ℕ → G → Type 0
+  On = Onward m ls rows n
 
-  chosen_at : (w : List ℕ) (s : TableState) (c : Cell G) (v : G) → c.grade ≡ Some v → Says m (Onward m ls rows n w s) c → Chosen m (Onward m ls rows n w s) c.row v
-  chosen_at w s c v has says = by_grade c.grade has says
+  pub laid_end : (s : TableState) (c : Cell G) → Says m (On [] s) c → Laid c s [] [] []
+  laid_end s None says = refl
+  laid_end s (Some t) says = let (ks, (is, path)) = says.offered in ended path
     where
-      by_grade : (o : Option G) → o ≡ Some v → Says m (Onward m ls rows n w s) (record { grade = o; row = c.row }) → Chosen m (Onward m ls rows n w s) c.row v
-      by_grade None e none = let never : ◌≡◌ {A = ℕ} 0 1 = cc in absurd (omega arith)
-      by_grade (Some u) e chosen = let same : u ≡ v = cc in subst (Chosen m (Onward m ls rows n w s) c.row) same chosen
+      ended : {ks : List ℕ} {v : G} → RowPath m ls rows n s [] ks v → RowPath m ls rows n s [] [] v
+      ended (path_end ending) = path_end ending
 
-  -- where a path leads on, the cell there has a grade, which is no worse than the path's
-  better_there : (w : List ℕ) (s : TableState) (c : Cell G) (ks : List ℕ) (v : G) → RowPath m ls rows n s w ks v → Says m (Onward m ls rows n w s) c → (g : G) × (c.grade ≡ Some g) × T (m.noworse g v)
-  better_there w s c ks v path says = by_grade c.grade refl says
-    where
-      by_grade : (o : Option G) → c.grade ≡ o → Says m (Onward m ls rows n w s) (record { grade = o; row = c.row }) → (g : G) × (c.grade ≡ Some g) × T (m.noworse g v)
-      by_grade None e none = let (l, on) = path_onward m ls rows n path in absurd (none l v on)
-      by_grade (Some u) e chosen = let (l, on) = path_onward m ls rows n path in (u, e, chosen.no_better l v on)
+  -- the row that a cell names, if any
+  abbrev pub Names : Cell G → Option ℕ → Type 0
+  Names c o = MatchOption c (o ≡ None) (λ t. o ≡ t.row)
 
-  module _ (cells : List (Cell G)) where
-    -- the list has a path of the grade that the cell has
-    abbrev pub Laid : ℕ → TableState → List ℕ → List ℕ → Type 0
-    Laid base s w list = (v : G) → (cell_at cells (base + index Fs s)).grade ≡ Some v → RowPath m ls rows n s w (reverse (take (length w) list)) v
+  -- with a wagon left and no row there is no path
+  laid_without : (s : TableState) (x : ℕ) (w : List ℕ) (c : Cell G) → Names c None → Says m (On (x ∷ w) s) c → (old : List ℕ) → Laid c s (x ∷ w) old old
+  laid_without s x w None row says old = refl
+  laid_without s x w (Some t) row says old = let f = first_row m ls rows n says.offered in never_none (f.begins ∙ sym row)
 
-    laid_none : (base : ℕ) (s : TableState) (list : List ℕ) → Says m (Onward m ls rows n [] s) (cell_at cells (base + index Fs s)) → Laid base s [] list
-    laid_none base s list says v has =
-        let (ending, best) = (chosen_at [] s (cell_at cells (base + index Fs s)) v has says).offered in
-        subst (RowPath m ls rows n s [] []) (sym best) (path_end ending)
+  -- what the cell's row begins
+  module _ (s : TableState) (x : ℕ) (w : List ℕ) (k : ℕ) where
+    abbrev to : TableState
+    to = (row_at m rows k).to
 
-    -- what the cell's row begins
-    module _ (lawful : Lawful m) (sound : Sound m Fs rows n) (base : ℕ) (s : TableState) (x : ℕ) (w : List ℕ) (exists : Exists Fs s) (here : Layer m Fs cells base (Onward m ls rows n (x ∷ w)))
-        (behind : Layer m Fs cells (base + width Fs) (Onward m ls rows n w)) where
-      abbrev k : ℕ
-      k = (cell_at cells (base + index Fs s)).row
+    first : (t : Step G) → Some k ≡ t.row → Chosen m (On (x ∷ w) s) t → First m ls rows n s x w (Some k) t.grade
+    first t row chosen = subst (λ o. First m ls rows n s x w o t.grade) (sym row) (first_row m ls rows n chosen.offered)
 
-      abbrev next : Cell G
-      next = cell_at cells (base + width Fs + index Fs (row_at m rows k).to)
+    place : {v : G} (f : First m ls rows n s x w (Some k) v) → f.place ≡ k
+    place f = let e = f.begins in cc
 
-      module _ (v : G) (has : (cell_at cells (base + index Fs s)).grade ≡ Some v) where
-        chosen : Chosen m (Onward m ls rows n (x ∷ w) s) k v
-        chosen = chosen_at (x ∷ w) s (cell_at cells (base + index Fs s)) v has (here s exists)
+    row_below : (c : Cell G) → Names c (Some k) → Says m (On (x ∷ w) s) c → k < n
+    row_below None row says = never_none row
+    row_below (Some t) row says = let f = first t row says in subst (λ j. j < n) (place f) f.below
 
-        first : First m ls rows n s x w k chosen.offered.0 v
-        first = first_row m ls rows n chosen.offered.1
+    module _ (lawful : Lawful m) where
+      -- going on by a path of the grade there is as good
+      as_good : (t : Step G) → Chosen m (On (x ∷ w) s) t → (f : First m ls rows n s x w (Some k) t.grade) → f.place ≡ k → (c : Cell G) → Says m (On w to) c → (old new : List ℕ) → Laid c to w old new
+          → RowPath m ls rows n s (x ∷ w) (reverse (new ++ k ∷ [])) t.grade
+      as_good t chosen f is None none old new laid = absurd (none (slice_get f.behind 0) f.rest (f.behind, (refl, subst (λ j. RowPath m ls rows n (row_at m rows j).to w f.behind f.rest) is f.path)))
+      as_good t chosen f is (Some g) says old new laid =
+          let grade = (row_at m rows k).grade in
+          let below : k < n = subst (λ j. j < n) is f.below in
+          let from : (row_at m rows k).from ≡ s = ap (λ j. (row_at m rows j).from) (sym is) ∙ f.from in
+          let by : (row_at m rows k).wagon ≡ x = ap (λ j. (row_at m rows j).wagon) (sym is) ∙ f.by in
+          let joins : m.join grade f.rest ≡ t.grade = ap (λ j. m.join (row_at m rows j).grade f.rest) (sym is) ∙ f.joins in
+          let less : T (m.noworse g.grade f.rest) =
+          says.no_better (slice_get f.behind 0) f.rest (f.behind, (refl, subst (λ j. RowPath m ls rows n (row_at m rows j).to w f.behind f.rest) is f.path)) in
+          let path : RowPath m ls rows n s (x ∷ w) (k ∷ reverse new) (m.join grade g.grade) = path_on below from by laid in
+          let best : T (m.noworse t.grade (m.join grade g.grade)) = chosen.no_better (Some k) (m.join grade g.grade) (k ∷ reverse new, (refl, path)) in
+          let good : T (m.noworse (m.join grade g.grade) t.grade) = subst (λ z. T (m.noworse (m.join grade g.grade) z)) joins (lawful.monol g.grade f.rest grade less) in
+          subst (λ ks. RowPath m ls rows n s (x ∷ w) ks t.grade) (sym (reverse-append new (k ∷ [])))
+          (subst (RowPath m ls rows n s (x ∷ w) (k ∷ reverse new)) (lawful.antisymmetric (m.join grade g.grade) t.grade good best) path)
 
-        pub row_below : k < n
-        row_below = first.below
+      laid_on : (c : Cell G) → Names c (Some k) → Says m (On (x ∷ w) s) c → (d : Cell G) → Says m (On w to) d → (old below new : List ℕ) → Laid d to w below new → Laid c s (x ∷ w) old (new ++ k ∷ [])
+      laid_on None row says d there old below new laid = never_none row
+      laid_on (Some t) row says d there old below new laid = let f = first t row says in as_good t says f (place f) d there below new laid
 
-        there : (g : G) × (next.grade ≡ Some g) × T (m.noworse g first.rest)
-        there = better_there w (row_at m rows k).to next chosen.offered.0 first.rest first.path (behind (row_at m rows k).to (sound.to k row_below))
+-- at a state with wagons left, over layers for them
+module _ {G : Type 0} (m : Ghosts G) (ls : List Line) (rows : List (TableRow G)) (n : ℕ) (Fs lane rest : List ℕ) (some : 0 < length lane) (tail : rest ≡ drop 1 lane)
+    (cells behind : List (Cell G)) (cut : behind ≡ drop (width Fs) cells) where
+  abbrev top : ℕ
+  top = get_or lane 0 0
 
-        pub next_some : is_some next.grade ≡ true
-        next_some = ap is_some there.1
+  opened : lane ≡ top ∷ rest
+  opened = drop_more lane 0 0 some ∙ ap (λ w. top ∷ w) (sym tail)
 
-        -- going on by a path of the grade there is as good
-        pub laid_on : (list : List ℕ) → length w < length list → get_or list (length w) 0 ≡ k → Laid (base + width Fs) (row_at m rows k).to w list → RowPath m ls rows n s (x ∷ w) (reverse (take (suc (length w)) list)) v
-        laid_on list lt top rest =
-            let (g, is, less) = there in
-            let grade = (row_at m rows k).grade in
-            let path : RowPath m ls rows n s (x ∷ w) (k ∷ reverse (take (length w) list)) (m.join grade g) = path_on row_below first.from first.by (rest g is) in
-            let best : T (m.noworse v (m.join grade g)) = chosen.no_better k (m.join grade g) (reverse (take (length w) list), path) in
-            let good : T (m.noworse (m.join grade g) v) = subst (λ z. T (m.noworse (m.join grade g) z)) first.joins (lawful.monol g first.rest grade less) in
-            subst (λ ks. RowPath m ls rows n s (x ∷ w) ks v) (stacked list (length w) k lt top) (subst (RowPath m ls rows n s (x ∷ w) (k ∷ reverse (take (length w) list))) (lawful.antisymmetric (m.join grade g) v good best) path)
+  -- there is room for the layers behind
+  pub lane_room : (length lane + 1) * width Fs ≤ length cells → (length rest + 1) * width Fs ≤ length behind
+  lane_room room =
+      let long = ap length opened in
+      let e = ap (λ k. (k + 1) * width Fs) long in
+      let f = next_layer (length rest + 1) (width Fs) in
+      let g : length behind ≡ length cells - width Fs = ap length cut ∙ length-drop (width Fs) cells in
+      omega arith
 
--- On the way, at a place of the lane: what is laid out of the wagons from here on completes what is on the list.
-pub record Walk {G : Type 0} (m : Ghosts G) (ls : List Line) (Fs : List ℕ) (rows : List (TableRow G)) (n : ℕ) (cells : List (Cell G)) (start : TableState) (lane list : List ℕ) (place base : ℕ) (s : TableState) : Type 0 where
-  pub exists : Exists Fs s
-  pub is : base ≡ place * width Fs
-  pub some : is_some (cell_at cells (base + index Fs s)).grade ≡ true
-  pub completes : (made : List ℕ) → length made ≡ length list → ((j : ℕ) → length lane ≤ j + place → get_or made j 0 ≡ get_or list j 0)
-      → Laid m ls Fs rows n cells base s (drop place lane) made → Laid m ls Fs rows n cells 0 start lane made
+  module _ (layered : Layered m ls rows n Fs lane cells) (s : TableState) (exists : Exists Fs s) where
+    abbrev here : Cell G
+    here = cell_at cells (index Fs s)
 
-module _ {G : Type 0} (m : Ghosts G) (ls : List Line) {Fs : List ℕ} {rows : List (TableRow G)} {n : ℕ} {cells : List (Cell G)} {start : TableState} {lane list : List ℕ} {place base : ℕ} {s : TableState}
-    (lawful : Lawful m) (sound : Sound m Fs rows n) (layered : Layered m ls rows n Fs lane cells 0) (walk : Walk m ls Fs rows n cells start lane list place base s) where
-  abbrev chosen_row : ℕ
-  chosen_row = (cell_at cells (base + index Fs s)).row
+    both : Layered m ls rows n Fs (top ∷ rest) cells
+    both = subst (λ w. Layered m ls rows n Fs w cells) opened layered
 
-  layer_at : (q : ℕ) → q ≤ length lane → (b : ℕ) → b ≡ q * width Fs → (w : List ℕ) → drop q lane ≡ w → Layer m Fs cells b (Onward m ls rows n w)
-  layer_at q le b is w e = subst (λ v. Layer m Fs cells b (Onward m ls rows n v)) e (subst (λ j. Layer m Fs cells j (Onward m ls rows n (drop q lane))) (sym is) (layered q (omega arith) le))
+    pub lane_behind : Layered m ls rows n Fs rest behind
+    lane_behind = subst (Layered m ls rows n Fs rest) (sym cut) both.1
 
-  module _ (lt : place < length lane) where
-    opened : drop place lane ≡ get_or lane place 0 ∷ drop (place + 1) lane
-    opened = drop_more lane place 0 lt
+    pub lane_without : Names m ls rows n here None → (old : List ℕ) → Laid m ls rows n here s lane old old
+    lane_without row old = subst (λ w. Laid m ls rows n here s w old old) (sym opened) (laid_without m ls rows n s top rest here row (both.0 s exists) old)
 
-    edge : base + width Fs ≡ (place + 1) * width Fs
-    edge = ap (λ b. b + width Fs) walk.is ∙ sym (next_layer place (width Fs))
+    pub lane_below : (k : ℕ) → Names m ls rows n here (Some k) → k < n
+    lane_below k row = row_below m ls rows n s top rest k here row (both.0 s exists)
 
-    here : Layer m Fs cells base (Onward m ls rows n (get_or lane place 0 ∷ drop (place + 1) lane))
-    here = layer_at place (omega arith) base walk.is (get_or lane place 0 ∷ drop (place + 1) lane) opened
+    pub lane_on : Lawful m → Sound m Fs rows n → (k : ℕ) → Names m ls rows n here (Some k) → (old below new : List ℕ)
+        → Laid m ls rows n (cell_at behind (index Fs (row_at m rows k).to)) (row_at m rows k).to rest below new → Laid m ls rows n here s lane old (new ++ k ∷ [])
+    lane_on lawful sound k row old below new laid =
+        let t = (row_at m rows k).to in
+        subst (λ w. Laid m ls rows n here s w old (new ++ k ∷ [])) (sym opened)
+        (laid_on m ls rows n s top rest k lawful here row (both.0 s exists) (cell_at behind (index Fs t)) (front_layer m ls rows n Fs rest behind lane_behind t (sound.to k (lane_below k row))) old below new laid)
 
-    behind : Layer m Fs cells (base + width Fs) (Onward m ls rows n (drop (place + 1) lane))
-    behind = layer_at (place + 1) (omega arith) (base + width Fs) edge (drop (place + 1) lane) refl
+-- a list but for its first
+pub from_one : (w : List ℕ) → take (length w - 1) (drop 1 w) ≡ drop 1 w
+from_one w = grind (arith, common_steps)
 
-    grade : (v : G) × ((cell_at cells (base + index Fs s)).grade ≡ Some v)
-    grade = some_is (cell_at cells (base + index Fs s)).grade walk.some
-
-    pub walk_below : chosen_row < n
-    walk_below = row_below m ls Fs rows n cells lawful sound base s (get_or lane place 0) (drop (place + 1) lane) walk.exists here behind grade.0 grade.1
-
-    pub walk_on : length lane ≤ length list → (slot next : ℕ) → slot + 1 + place ≡ length lane → next ≡ base + width Fs → Walk m ls Fs rows n cells start lane (set list slot chosen_row) (place + 1) next (row_at m rows chosen_row).to
-    walk_on enough slot next at is =
-        subst (λ b. Walk m ls Fs rows n cells start lane (set list slot chosen_row) (place + 1) b (row_at m rows chosen_row).to) (sym is) (record {
-          exists = sound.to chosen_row walk_below;
-          is = edge;
-          some = next_some m ls Fs rows n cells lawful sound base s (get_or lane place 0) (drop (place + 1) lane) walk.exists here behind grade.0 grade.1;
-          completes = λ made long same rest.
-              let long_list = length-set list slot chosen_row in
-              let gone : length (drop (place + 1) lane) ≡ slot = length-drop (place + 1) lane ∙ (let e : length lane - (place + 1) ≡ slot = omega arith in e) in
-              let top : get_or made (length (drop (place + 1) lane)) 0 ≡ chosen_row =
-              ap (λ j. get_or made j 0) gone ∙ same slot (omega arith) ∙ get_or-set_same list slot chosen_row 0 (omega arith) in
-              walk.completes made (long ∙ long_list) (λ j le. same j (omega arith) ∙ get_or-set_other list slot j chosen_row 0 (λ e. omega arith))
-              (subst (λ w. Laid m ls Fs rows n cells base s w made) (sym opened)
-              (λ v has. laid_on m ls Fs rows n cells lawful sound base s (get_or lane place 0) (drop (place + 1) lane) walk.exists here behind v has made (omega arith) top rest));
-        })
-
-  pub walk_all : place ≡ length lane → Laid m ls Fs rows n cells 0 start lane list
-  walk_all all =
-      walk.completes list refl (λ j le. refl)
-      (subst (λ w. Laid m ls Fs rows n cells base s w list) (sym (drop_all place lane (omega arith)))
-      (laid_none m ls Fs rows n cells base s list (layer_at place (omega arith) base walk.is [] (drop_all place lane (omega arith)) s walk.exists)))
+-- the row that a cell names, as the program reads it
+pub names_read : {G : Type 0} (m : Ghosts G) (ls : List Line) (rows : List (TableRow G)) (n : ℕ) (Fs lane : List ℕ) (cells : List (Cell G)) (s : TableState) (i : ℕ) (c : Cell G) (o : Option ℕ)
+    → (length lane + 1) * width Fs ≤ length cells → i < width Fs → i ≡ index Fs s → c ≡ get_or cells i c → Names m ls rows n c o → Names m ls rows n (cell_at cells (index Fs s)) o
+names_read m ls rows n Fs lane cells s i c o room low is read row =
+    let more = next_layer (length lane) (width Fs) in
+    subst (λ d. Names m ls rows n d o) (cell_read cells i (index Fs s) c (omega arith) read is) row

@@ -2,9 +2,10 @@ pub mod Indexes
 pub mod Offers
 pub mod Onward
 pub mod Stopping
-pub mod Products
+pub mod Layering
 pub mod Bridge
-pub mod Asking
 pub mod Laying
+pub mod Taken
+pub mod Asking
 pub mod Standing
 pub mod Opened

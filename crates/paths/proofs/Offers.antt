@@ -1,6 +1,6 @@
 -- How one row after another makes a layer.
-use Rattle.std.proofs.Common.{◌≡◌, ℕ, ◌+◌, ◌<◌, ◌≤◌, Bool, true, false, cond, T, eqb, ◌⊎◌, List, length, get_or, set, Some, None, Option, sym, refl, ap, ◌∙◌, subst, inl, inr, ⊎_elim, arith, eq-eqb, eqb-true}
-use Rattle.std.proofs.lemmas.List.{get_or-set_same, get_or-set_other, get_or_read, set-get_or}
+use Rattle.std.proofs.Common.{◌≡◌, ℕ, ◌+◌, ◌≤◌, Bool, true, false, cond, T, eqb, ◌⊎◌, List, length, replicate, set, Some, None, Option, sym, refl, ap, ◌∙◌, subst, inl, inr, ⊎_elim, arith, eq-eqb, eqb-true}
+use Rattle.std.proofs.lemmas.List.{get_or-set_same, get_or-set_other, get_or-replicate}
 use Rattle.std.proofs.lemmas.Bool.{cases_lt, cases_eq}
 use Rattle.grade.specs.declared.grade.Grade.{Ghosts}
 use Rattle.grade.specs.Lawful.{Lawful}
@@ -8,47 +8,25 @@ use Rattle.deduction.proofs.Grades.{either, no_worse_itself}
 use Rattle.rows.proofs.Graded.{laws_of}
 use Rattle.rowtable.specs.declared.row.TableState.{TableState}
 use Rattle.rowtable.specs.declared.row.TableRow.{TableRow}
-use Rattle.rowtable.specs.Tables.{Exists, row_at}
-use Rattle.paths.specs.declared.cell.Cell.{Cell}
-use Rattle.paths.specs.Cells.{width, index, no_cell, cell_at, Says, Layer, Via, keeps, bettered, brought_by, brought, SameFrom}
+use Rattle.rowtable.specs.Tables.{row_at}
+use Rattle.paths.specs.declared.cell.Step.{Step}
+use Rattle.paths.specs.Cells.{Cell, width, index, cell_at, Says, Layer, Offers, Leads, bettered, brought_by, brought}
 use Rattle.paths.proofs.Indexes.{index_below, same_index}
 
 module _ {G : Type 0} (m : Ghosts G) where
-  -- one grade offered for a cell, which is kept or not
-  module _ (cells : List (Cell G)) (place k : ℕ) (v : G) (c : Cell G) (lt : place < length cells) (read : c ≡ get_or cells place c) where
-    here : c ≡ cell_at cells place
-    here = get_or_read cells place c lt read no_cell
-
-    abbrev new : Cell G
-    new = record { grade = Some v; row = k }
-
-    pub offer_taken : keeps m c.grade v ≡ false → set cells place new ≡ set cells place (bettered m (cell_at cells place) k v)
-    offer_taken e = ap (set cells place) (ap (λ b. cond b c new) (sym e) ∙ ap (λ d. bettered m d k v) here)
-
-    pub offer_kept : keeps m c.grade v ≡ true → cells ≡ set cells place (bettered m (cell_at cells place) k v)
-    offer_kept e = sym (set-get_or cells place no_cell) ∙ ap (set cells place) (sym here ∙ ap (λ b. cond b c new) (sym e) ∙ ap (λ d. bettered m d k v) here)
-
-  says_like : {P Q : ℕ → G → Type 0} (o : Option G) (row : ℕ) → ((k : ℕ) (v : G) → P k v → Q k v) → ((k : ℕ) (v : G) → Q k v → P k v) → Says m P (record { grade = o; row = row }) → Says m Q (record { grade = o; row = row })
-  says_like None row to from none = λ k v q. none k v (from k v q)
-  says_like (Some u) row to from c = record { offered = to row u c.offered; no_better = λ l v q. c.no_better l v (from l v q) }
-
-  -- what rows offer depends only on the cells behind
-  pub layer_same : (Fs : List ℕ) (rows : List (TableRow G)) (n x : ℕ) (old mid new : List (Cell G)) (base behind : ℕ) → SameFrom behind old mid
-      → Layer m Fs new base (Via m Fs rows n x mid behind) → Layer m Fs new base (Via m Fs rows n x old behind)
-  layer_same Fs rows n x old mid new base behind same layer s exists =
-      let c = cell_at new (base + index Fs s) in
-      let at : (k : ℕ) → cell_at mid (behind + index Fs (row_at m rows k).to) ≡ cell_at old (behind + index Fs (row_at m rows k).to) = λ k. same (behind + index Fs (row_at m rows k).to) (omega arith) in
-      says_like c.grade c.row
-      (λ k v h. record { below = h.below; from = h.from; by = h.by; rest = h.rest; has = sym (ap (λ d. d.grade) (at k)) ∙ h.has; joins = h.joins })
-      (λ k v h. record { below = h.below; from = h.from; by = h.by; rest = h.rest; has = ap (λ d. d.grade) (at k) ∙ h.has; joins = h.joins })
-      (layer s exists)
+  says_like : {P Q : Option ℕ → G → Type 0} (c : Cell G) → ((o : Option ℕ) (v : G) → P o v → Q o v) → ((o : Option ℕ) (v : G) → Q o v → P o v) → Says m P c → Says m Q c
+  says_like None to from none = λ o v q. none o v (from o v q)
+  says_like (Some s) to from c = record { offered = to s.row s.grade c.offered; no_better = λ o v q. c.no_better o v (from o v q) }
 
   -- where nothing is known and no row was brought in
-  pub layer_none : (Fs : List ℕ) (rows : List (TableRow G)) (x : ℕ) (old cells : List (Cell G)) (base behind : ℕ)
-      → ((k : ℕ) → base ≤ k → k < base + width Fs → cell_at cells k ≡ no_cell) → Layer m Fs cells base (Via m Fs rows 0 x old behind)
-  layer_none Fs rows x old cells base behind blank s exists =
+  none_first : (Fs : List ℕ) (rows : List (TableRow G)) (x : ℕ) (behind : List (Cell G)) (s : TableState) (o : Option ℕ) (v : G) → Offers m Fs rows 0 x behind s o v → ⊥
+  none_first Fs rows x behind s None v h = h
+  none_first Fs rows x behind s (Some k) v h = let none = h.below in omega arith
+
+  pub layer_none : (Fs : List ℕ) (rows : List (TableRow G)) (x places : ℕ) (behind : List (Cell G)) → width Fs ≤ places → Layer m Fs (replicate places None) (Offers m Fs rows 0 x behind)
+  layer_none Fs rows x places behind wide s exists =
       let lt = index_below Fs s exists in
-      subst (Says m (Via m Fs rows 0 x old behind s)) (sym (blank (base + index Fs s) (omega arith) (omega arith))) (λ k v h. let none = h.below in omega arith)
+      subst (Says m (Offers m Fs rows 0 x behind s)) (sym (get_or-replicate places (index Fs s) None None (omega arith))) (none_first Fs rows x behind s)
 
 module _ {G : Type 0} {m : Ghosts G} (lawful : Lawful m) where
   itself : (v : G) → T (m.noworse v v)
@@ -58,106 +36,88 @@ module _ {G : Type 0} {m : Ghosts G} (lawful : Lawful m) where
   better_than u v e = ⊎_elim (λ t. absurd (subst T e t)) (λ t. t) (either (laws_of lawful) u v)
 
   -- a cell says what is offered when one offer more came
-  module _ {P Q : ℕ → G → Type 0} (k : ℕ) (v : G) (on : (l : ℕ) (u : G) → P l u → Q l u) (offered : Q k v) (back : (l : ℕ) (u : G) → Q l u → P l u ⊎ (u ≡ v)) where
-    at_least : (y : G) → T (m.noworse y v) → ((l : ℕ) (u : G) → P l u → T (m.noworse y u)) → (l : ℕ) (u : G) → Q l u → T (m.noworse y u)
-    at_least y low all l u q = ⊎_elim (all l u) (λ e. subst (λ z. T (m.noworse y z)) (sym e) low) (back l u q)
+  module _ {P Q : Option ℕ → G → Type 0} (s : Step G) (on : (o : Option ℕ) (u : G) → P o u → Q o u) (offered : Q s.row s.grade) (back : (o : Option ℕ) (u : G) → Q o u → P o u ⊎ (u ≡ s.grade)) where
+    at_least : (y : G) → T (m.noworse y s.grade) → ((o : Option ℕ) (u : G) → P o u → T (m.noworse y u)) → (o : Option ℕ) (u : G) → Q o u → T (m.noworse y u)
+    at_least y low all o u q = ⊎_elim (all o u) (λ e. subst (λ z. T (m.noworse y z)) (sym e) low) (back o u q)
 
-    choose_by : (o : Option G) (row : ℕ) (b : Bool) → keeps m o v ≡ b → Says m P (record { grade = o; row = row }) → Says m Q (cond b (record { grade = o; row = row }) (record { grade = Some v; row = k }))
-    choose_by None row true e none = let never : ◌≡◌ {A = ℕ} 0 1 = cc in absurd (omega arith)
-    choose_by None row false e none = record { offered = offered; no_better = at_least v (itself v) (λ l u p. absurd (none l u p)) }
-    choose_by (Some u) row true e c = record { offered = on row u c.offered; no_better = at_least u (subst T (sym e) tt) c.no_better }
-    choose_by (Some u) row false e c = record {
+    choose_by : (t : Step G) (b : Bool) → m.noworse t.grade s.grade ≡ b → Says m P (Some t) → Says m Q (cond b (Some t) (Some s))
+    choose_by t true e c = record { offered = on t.row t.grade c.offered; no_better = at_least t.grade (subst T (sym e) tt) c.no_better }
+    choose_by t false e c = record {
       offered = offered;
-      no_better = at_least v (itself v) (λ l y p. lawful.transitive v u y (better_than u v e) (c.no_better l y p));
+      no_better = at_least s.grade (itself s.grade) (λ o y p. lawful.transitive s.grade t.grade y (better_than t.grade s.grade e) (c.no_better o y p));
     }
 
-    pub choose : (c : Cell G) → Says m P c → Says m Q (bettered m c k v)
-    choose c says = choose_by c.grade c.row (keeps m c.grade v) refl says
+    pub choose : (c : Cell G) → Says m P c → Says m Q (bettered m c s)
+    choose None none = record { offered = offered; no_better = at_least s.grade (itself s.grade) (λ o u p. absurd (none o u p)) }
+    choose (Some t) says = choose_by t (m.noworse t.grade s.grade) refl says
 
   -- row k brought into a layer, into which the rows before it were brought
-  module _ (Fs : List ℕ) (rows : List (TableRow G)) (x base : ℕ) (old cells : List (Cell G)) (k : ℕ) (room : base + width Fs + width Fs ≤ length cells)
-      (from_exists : Exists Fs (row_at m rows k).from) (to_exists : Exists Fs (row_at m rows k).to) (same : SameFrom (base + width Fs) old cells)
-      (layer : Layer m Fs cells base (Via m Fs rows k x old (base + width Fs))) where
+  module _ (Fs : List ℕ) (rows : List (TableRow G)) (x k : ℕ) (behind layer : List (Cell G)) (room : width Fs ≤ length layer) (leads : Leads Fs (row_at m rows k)) (told : Layer m Fs layer (Offers m Fs rows k x behind)) where
     abbrev r : TableRow G
     r = row_at m rows k
 
-    abbrev Offers : ℕ → TableState → ℕ → G → Type 0
-    Offers n = Via m Fs rows n x old (base + width Fs)
+    abbrev By : ℕ → TableState → Option ℕ → G → Type 0
+    By n = Offers m Fs rows n x behind
 
-    on : (s : TableState) (l : ℕ) (u : G) → Offers k s l u → Offers (k + 1) s l u
-    on s l u h = let lt = h.below in record { below = omega arith; from = h.from; by = h.by; rest = h.rest; has = h.has; joins = h.joins }
+    on : (s : TableState) (o : Option ℕ) (u : G) → By k s o u → By (k + 1) s o u
+    on s None u h = h
+    on s (Some l) u h = let lt = h.below in record { below = omega arith; from = h.from; by = h.by; rest = h.rest; has = h.has; joins = h.joins }
 
-    back : (s : TableState) (l : ℕ) (u : G) → Offers (k + 1) s l u → Offers k s l u ⊎ Offers (k + 1) s k u
-    back s l u h =
+    back : (s : TableState) (o : Option ℕ) (u : G) → By (k + 1) s o u → By k s o u ⊎ By (k + 1) s (Some k) u
+    back s None u h = absurd h
+    back s (Some l) u h =
         let lt = h.below in
         ⊎_elim
         (λ less. inl (record { below = less; from = h.from; by = h.by; rest = h.rest; has = h.has; joins = h.joins }))
-        (λ le. let e : l ≡ k = omega arith in inr (subst (λ j. Offers (k + 1) s j u) e h))
+        (λ le. let e : l ≡ k = omega arith in inr (subst (λ j. By (k + 1) s (Some j) u) e h))
         (cases_lt l k)
 
     -- a state for which row k offers nothing
-    keep : (s : TableState) (c : Cell G) → ((u : G) → Offers (k + 1) s k u → ⊥) → Says m (Offers k s) c → Says m (Offers (k + 1) s) c
-    keep s c none says = says_like m c.grade c.row (on s) (λ l u h. ⊎_elim (λ p. p) (λ q. absurd (none u q)) (back s l u h)) says
+    keep : (s : TableState) (c : Cell G) → ((u : G) → By (k + 1) s (Some k) u → ⊥) → Says m (By k s) c → Says m (By (k + 1) s) c
+    keep s c none says = says_like m c (on s) (λ o u h. ⊎_elim (λ p. p) (λ q. absurd (none u q)) (back s o u h)) says
 
     abbrev Brought : List (Cell G) → Type 0
-    Brought new = Layer m Fs new base (Offers (k + 1)) × SameFrom (base + width Fs) old new
+    Brought new = Layer m Fs new (By (k + 1))
 
-    behind : cell_at cells (base + width Fs + index Fs r.to) ≡ cell_at old (base + width Fs + index Fs r.to)
-    behind = same (base + width Fs + index Fs r.to) (omega arith)
-
-    module _ (by : r.wagon ≡ x) (rest : G) (has : (cell_at cells (base + width Fs + index Fs r.to)).grade ≡ Some rest) where
+    module _ (by : r.wagon ≡ x) (rest : Step G) (has : cell_at behind (index Fs r.to) ≡ Some rest) where
       abbrev place : ℕ
-      place = base + index Fs r.from
+      place = index Fs r.from
 
-      abbrev v : G
-      v = m.join r.grade rest
+      abbrev step : Step G
+      step = record { grade = m.join r.grade rest.grade; row = Some k }
 
       abbrev after : List (Cell G)
-      after = set cells place (bettered m (cell_at cells place) k v)
+      after = set layer place (bettered m (cell_at layer place) step)
 
-      place_low : place < base + width Fs
-      place_low = let lt = index_below Fs r.from from_exists in omega arith
+      offers : By (k + 1) r.from (Some k) step.grade
+      offers = record { below = omega arith; from = refl; by = by; rest = rest; has = has; joins = refl }
 
-      other : (j : ℕ) → (j ≡ place → ⊥) → cell_at after j ≡ cell_at cells j
-      other j ne = get_or-set_other cells place j (bettered m (cell_at cells place) k v) no_cell ne
-
-      offers : Offers (k + 1) r.from k v
-      offers = record { below = omega arith; from = refl; by = by; rest = rest; has = sym (ap (λ c. c.grade) behind) ∙ has; joins = refl }
-
-      only : (s : TableState) (u : G) → Offers (k + 1) s k u → u ≡ v
+      only : (s : TableState) (u : G) → By (k + 1) s (Some k) u → u ≡ step.grade
       only s u h =
-          let e : Some h.rest ≡ Some rest = sym h.has ∙ sym (ap (λ c. c.grade) behind) ∙ has in
+          let e : Some h.rest ≡ Some rest = sym h.has ∙ has in
           let f : h.rest ≡ rest = cc in
-          sym h.joins ∙ ap (m.join r.grade) f
+          sym h.joins ∙ ap (λ t. m.join r.grade t.grade) f
 
-      chosen : Says m (Offers (k + 1) r.from) (cell_at after place)
+      chosen : Says m (By (k + 1) r.from) (cell_at after place)
       chosen =
-          let lt = place_low in
-          subst (Says m (Offers (k + 1) r.from)) (sym (get_or-set_same cells place (bettered m (cell_at cells place) k v) no_cell (omega arith)))
-          (choose k v (on r.from) offers (λ l u h. ⊎_elim inl (λ q. inr (only r.from u q)) (back r.from l u h)) (cell_at cells place) (layer r.from from_exists))
+          let lt = index_below Fs r.from leads.0 in
+          subst (Says m (By (k + 1) r.from)) (sym (get_or-set_same layer place (bettered m (cell_at layer place) step) None (omega arith)))
+          (choose step (on r.from) offers (λ o u h. ⊎_elim inl (λ q. inr (only r.from u q)) (back r.from o u h)) (cell_at layer place) (told r.from leads.0))
 
       taken : Brought after
-      taken = (
-        λ s exists. ⊎_elim
-            (λ e. let is = same_index Fs r.from s from_exists exists (sym e) in subst (λ t. Says m (Offers (k + 1) t) (cell_at after (base + index Fs t))) is chosen)
-            (λ ne. subst (Says m (Offers (k + 1) s)) (sym (other (base + index Fs s) (λ e. ne (omega arith))))
-            (keep s (cell_at cells (base + index Fs s)) (λ u h. ne (ap (index Fs) (sym h.from))) (layer s exists)))
-            (cases_eq (index Fs s) (index Fs r.from)),
-        λ j le. let lt = place_low in other j (λ e. omega arith) ∙ same j le,
-      )
+      taken s exists =
+          ⊎_elim
+          (λ e. let is = same_index Fs r.from s leads.0 exists (sym e) in subst (λ t. Says m (By (k + 1) t) (cell_at after (index Fs t))) is chosen)
+          (λ ne. subst (Says m (By (k + 1) s)) (sym (get_or-set_other layer place (index Fs s) (bettered m (cell_at layer place) step) None ne))
+          (keep s (cell_at layer (index Fs s)) (λ u h. ne (ap (index Fs) (sym h.from))) (told s exists)))
+          (cases_eq (index Fs s) place)
 
-    brought_cases : (b : Bool) (o : Option G) → eqb r.wagon x ≡ b → (cell_at cells (base + width Fs + index Fs r.to)).grade ≡ o → Brought (cond b (brought_by m o cells (base + index Fs r.from) k r.grade) cells)
-    brought_cases false o e has = (
-      λ s exists. keep s (cell_at cells (base + index Fs s)) (λ u h. let t : true ≡ false = sym (eq-eqb r.wagon x h.by) ∙ e in let never : ◌≡◌ {A = ℕ} 0 1 = cc in omega arith) (layer s exists),
-      same,
-    )
-    brought_cases true None e has = (
-      λ s exists. keep s (cell_at cells (base + index Fs s))
-          (λ u h. let t : Some h.rest ≡ None = sym h.has ∙ sym (ap (λ c. c.grade) behind) ∙ has in let never : ◌≡◌ {A = ℕ} 0 1 = cc in omega arith)
-          (layer s exists),
-      same,
-    )
+    brought_cases : (b : Bool) (c : Cell G) → eqb r.wagon x ≡ b → cell_at behind (index Fs r.to) ≡ c → Brought (cond b (brought_by m c layer (index Fs r.from) k r.grade) layer)
+    brought_cases false c e has =
+        λ s exists. keep s (cell_at layer (index Fs s)) (λ u h. let t : true ≡ false = sym (eq-eqb r.wagon x h.by) ∙ e in let never : ◌≡◌ {A = ℕ} 0 1 = cc in omega arith) (told s exists)
+    brought_cases true None e has =
+        λ s exists. keep s (cell_at layer (index Fs s)) (λ u h. let t : Some h.rest ≡ None = sym h.has ∙ has in let never : ◌≡◌ {A = ℕ} 0 1 = cc in omega arith) (told s exists)
     brought_cases true (Some rest) e has = taken (eqb-true r.wagon x e) rest has
 
-    pub bring_step : Brought (brought m Fs cells base x k r)
-    bring_step = brought_cases (eqb r.wagon x) (cell_at cells (base + width Fs + index Fs r.to)).grade refl refl
+    pub bring_step : Brought (brought m Fs behind layer x k r)
+    bring_step = brought_cases (eqb r.wagon x) (cell_at behind (index Fs r.to)) refl refl

@@ -1,88 +1,100 @@
 -- Paths row by row, and from the cells behind to the paths by one wagon more.
-use Rattle.std.proofs.Common.{◌≡◌, ℕ, ◌+◌, ◌<◌, T, List, [], ◌∷◌, Some, None, Option, sym, refl, subst}
+use Rattle.std.proofs.Common.{◌≡◌, ℕ, ◌<◌, T, List, [], ◌∷◌, Some, None, Option, refl, sym, subst}
 use Rattle.std.proofs.lemmas.Option.{MatchOption-at_some}
+use Rattle.std.specs.Prelude.{slice_get}
 use Rattle.grade.specs.declared.grade.Grade.{Ghosts}
 use Rattle.grade.specs.Lawful.{Lawful}
 use Rattle.text.specs.declared.line.Line.{Line}
 use Rattle.rowtable.specs.declared.row.TableState.{TableState}
 use Rattle.rowtable.specs.declared.row.TableRow.{TableRow}
 use Rattle.rowtable.specs.Tables.{row_at}
-use Rattle.rowtable.specs.Paths.{RowPath, path_end, path_on, RowsSay}
-use Rattle.paths.specs.declared.cell.Cell.{Cell}
-use Rattle.paths.specs.Cells.{index, cell_at, Says, Layer, Via, Sound}
-use Rattle.paths.specs.Layers.{Onward, BestSaid}
+use Rattle.rowtable.specs.Paths.{RowPath, path_end, path_on}
+use Rattle.paths.specs.Cells.{Cell, index, cell_at, grade_of, Says, Layer, Offers, Sound}
+use Rattle.paths.specs.Layers.{Stopping, Onward, BestSaid}
 
 module _ {G : Type 0} (m : Ghosts G) (ls : List Line) (rows : List (TableRow G)) (n : ℕ) where
-  abbrev On : List ℕ → TableState → ℕ → G → Type 0
+  abbrev On : List ℕ → TableState → Option ℕ → G → Type 0
   On = Onward m ls rows n
 
   -- a path's first row, and the path from where it leads
-  pub record First (s : TableState) (x : ℕ) (w : List ℕ) (k : ℕ) (ks : List ℕ) (v : G) : Type 0 where
-    pub below : k < n
-    pub from : (row_at m rows k).from ≡ s
-    pub by : (row_at m rows k).wagon ≡ x
+  pub record First (s : TableState) (x : ℕ) (w : List ℕ) (o : Option ℕ) (v : G) : Type 0 where
+    pub place : ℕ
+    pub behind : List ℕ
+    pub begins : Some place ≡ o
+    pub below : place < n
+    pub from : (row_at m rows place).from ≡ s
+    pub by : (row_at m rows place).wagon ≡ x
     pub rest : G
-    pub path : RowPath m ls rows n (row_at m rows k).to w ks rest
-    pub joins : m.join (row_at m rows k).grade rest ≡ v
+    pub path : RowPath m ls rows n (row_at m rows place).to w behind rest
+    pub joins : m.join (row_at m rows place).grade rest ≡ v
 
-  pub first_row : {s : TableState} {x : ℕ} {w : List ℕ} {k : ℕ} {ks : List ℕ} {v : G} → RowPath m ls rows n s (x ∷ w) (k ∷ ks) v → First s x w k ks v
-  first_row (path_on {rest = rest} below from by path) = record { below = below; from = from; by = by; rest = rest; path = path; joins = refl }
+  first_of : {s : TableState} {x : ℕ} {w ks : List ℕ} {v : G} (o : Option ℕ) → slice_get ks 0 ≡ o → RowPath m ls rows n s (x ∷ w) ks v → First s x w o v
+  first_of o is (path_on {k = k} {ks = ks} {rest = rest} below from by path) =
+      record { place = k; behind = ks; begins = is; below = below; from = from; by = by; rest = rest; path = path; joins = refl }
 
-  pub onward_say : (w : List ℕ) (s : TableState) (k : ℕ) (v : G) → On w s k v → RowsSay m ls rows n s w v
-  onward_say [] s k v (ending, is) = ([], subst (RowPath m ls rows n s [] []) (sym is) (path_end ending))
-  onward_say (x ∷ w) s k v (ks, path) = (k ∷ ks, path)
+  pub first_row : {s : TableState} {x : ℕ} {w : List ℕ} {o : Option ℕ} {v : G} → On (x ∷ w) s o v → First s x w o v
+  first_row {o = o} (ks, (is, path)) = first_of o is path
 
-  pub path_onward : {s : TableState} {w ks : List ℕ} {v : G} → RowPath m ls rows n s w ks v → (k : ℕ) × On w s k v
-  path_onward (path_end ending) = (0, (ending, refl))
-  path_onward (path_on {k = k} {ks = ks} below from by path) = (k, (ks, path_on below from by path))
+  stopping_of : {s : TableState} {ks : List ℕ} {v : G} (o : Option ℕ) → slice_get ks 0 ≡ o → RowPath m ls rows n s [] ks v → Stopping m ls s o v
+  stopping_of o is (path_end ending) = (sym is, (ending, refl))
+
+  -- the layer with no wagon left is that of where a path may end
+  pub stopping_layer : (Fs : List ℕ) (cells : List (Cell G)) → Layer m Fs cells (Stopping m ls) → Layer m Fs cells (On [])
+  stopping_layer Fs cells layer s exists = says (cell_at cells (index Fs s)) (layer s exists)
+    where
+      to : (o : Option ℕ) (v : G) → Stopping m ls s o v → On [] s o v
+      to o v (is, (ending, best)) = ([], (sym is, subst (RowPath m ls rows n s [] []) (sym best) (path_end ending)))
+
+      says : (c : Cell G) → Says m (Stopping m ls s) c → Says m (On [] s) c
+      says None none = λ o v (ks, (is, path)). none o v (stopping_of o is path)
+      says (Some t) c = record { offered = to t.row t.grade c.offered; no_better = λ o v (ks, (is, path)). c.no_better o v (stopping_of o is path) }
 
   -- a cell that says what goes on has the best that the rows say
-  pub says_best : (w : List ℕ) (s : TableState) (o : Option G) (k : ℕ) → Says m (On w s) (record { grade = o; row = k }) → BestSaid m ls rows n s w o
-  says_best w s None k none = λ v (ks, path). let (l, on) = path_onward path in none l v on
-  says_best w s (Some u) k c = record {
-    attained = onward_say w s k u c.offered;
-    no_better = λ v (ks, path). let (l, on) = path_onward path in c.no_better l v on;
+  pub says_best : (w : List ℕ) (s : TableState) (c : Cell G) → Says m (On w s) c → BestSaid m ls rows n s w (grade_of c)
+  says_best w s None none = λ v (ks, path). none (slice_get ks 0) v (ks, (refl, path))
+  says_best w s (Some t) c = record {
+    attained = (c.offered.0, c.offered.1.1);
+    no_better = λ v (ks, path). c.no_better (slice_get ks 0) v (ks, (refl, path));
   }
 
-  module _ (lawful : Lawful m) {Fs : List ℕ} (sound : Sound m Fs rows n) (x : ℕ) (w : List ℕ) (old new : List (Cell G)) (base behind : ℕ) (there : Layer m Fs old behind (On w)) where
+  module _ (lawful : Lawful m) {Fs : List ℕ} (sound : Sound m Fs rows n) (x : ℕ) (w : List ℕ) (behind layer : List (Cell G)) (there : Layer m Fs behind (On w)) where
     -- the cell behind the other end of row k
     abbrev rest_cell : ℕ → Cell G
-    rest_cell k = cell_at old (behind + index Fs (row_at m rows k).to)
+    rest_cell k = cell_at behind (index Fs (row_at m rows k).to)
 
-    abbrev Offers : TableState → ℕ → G → Type 0
-    Offers = Via m Fs rows n x old behind
+    abbrev By : TableState → Option ℕ → G → Type 0
+    By = Offers m Fs rows n x behind
 
-    told : (k : ℕ) → k < n → BestSaid m ls rows n (row_at m rows k).to w (rest_cell k).grade
-    told k lt = says_best w (row_at m rows k).to (rest_cell k).grade (rest_cell k).row (there (row_at m rows k).to (sound.to k lt))
+    told : (k : ℕ) → k < n → Says m (On w (row_at m rows k).to) (rest_cell k)
+    told k lt = there (row_at m rows k).to (sound.to k lt)
 
     -- what a row offers is a path by that row ..
-    offer_path : (s : TableState) (k : ℕ) (v : G) → Offers s k v → On (x ∷ w) s k v
-    offer_path s k v h =
-        let (ks, path) = (MatchOption-at_some _ _ h.rest h.has (told k h.below)).attained in
-        (ks, subst (RowPath m ls rows n s (x ∷ w) (k ∷ ks)) h.joins (path_on h.below h.from h.by path))
+    offer_path : (s : TableState) (o : Option ℕ) (v : G) → By s o v → On (x ∷ w) s o v
+    offer_path s None v h = absurd h
+    offer_path s (Some k) v h =
+        let (ks, (is, path)) = (MatchOption-at_some _ _ h.rest h.has (told k h.below)).offered in
+        (k ∷ ks, (refl, subst (RowPath m ls rows n s (x ∷ w) (k ∷ ks)) h.joins (path_on h.below h.from h.by path)))
 
     -- .. and for every path by a row, the row offers one that is no worse
-    path_offer : (s : TableState) (k : ℕ) (v : G) → On (x ∷ w) s k v → (u : G) × Offers s k u × T (m.noworse u v)
-    path_offer s k v (ks, path) =
-        let f = first_row path in
-        best_offer s k v ks f (rest_cell k).grade refl (told k f.below)
-      where
-        best_offer : (s : TableState) (k : ℕ) (v : G) (ks : List ℕ) (f : First s x w k ks v) (o : Option G) → (rest_cell k).grade ≡ o → BestSaid m ls rows n (row_at m rows k).to w o
-            → (u : G) × Offers s k u × T (m.noworse u v)
-        best_offer s k v ks f None has none = absurd (none f.rest (ks, f.path))
-        best_offer s k v ks f (Some g) has best = (
-          m.join (row_at m rows k).grade g,
-          record { below = f.below; from = f.from; by = f.by; rest = g; has = has; joins = refl },
-          subst (λ z. T (m.noworse (m.join (row_at m rows k).grade g) z)) f.joins (lawful.monol g f.rest (row_at m rows k).grade (best.no_better f.rest (ks, f.path))),
+    best_offer : (s : TableState) (o : Option ℕ) (v : G) (f : First s x w o v) (c : Cell G) → rest_cell f.place ≡ c → Says m (On w (row_at m rows f.place).to) c → (u : G) × By s o u × T (m.noworse u v)
+    best_offer s o v f None has none = absurd (none (slice_get f.behind 0) f.rest (f.behind, (refl, f.path)))
+    best_offer s o v f (Some g) has best =
+        let grade = (row_at m rows f.place).grade in (
+          m.join grade g.grade,
+          subst (λ p. By s p (m.join grade g.grade)) f.begins (record { below = f.below; from = f.from; by = f.by; rest = g; has = has; joins = refl }),
+          subst (λ z. T (m.noworse (m.join grade g.grade) z)) f.joins (lawful.monol g.grade f.rest grade (best.no_better (slice_get f.behind 0) f.rest (f.behind, (refl, f.path)))),
         )
 
-    onward_says : (s : TableState) (o : Option G) (k : ℕ) → Says m (Offers s) (record { grade = o; row = k }) → Says m (On (x ∷ w) s) (record { grade = o; row = k })
-    onward_says s None k none = λ l v by. let (u, h, less) = path_offer s l v by in none l u h
-    onward_says s (Some g) k c = record {
-      offered = offer_path s k g c.offered;
-      no_better = λ l v by. let (u, h, less) = path_offer s l v by in lawful.transitive g u v (c.no_better l u h) less;
+    path_offer : (s : TableState) (o : Option ℕ) (v : G) → On (x ∷ w) s o v → (u : G) × By s o u × T (m.noworse u v)
+    path_offer s o v by = let f = first_row by in best_offer s o v f (rest_cell f.place) refl (told f.place f.below)
+
+    onward_says : (s : TableState) (c : Cell G) → Says m (By s) c → Says m (On (x ∷ w) s) c
+    onward_says s None none = λ o v by. let (u, h, less) = path_offer s o v by in none o u h
+    onward_says s (Some g) c = record {
+      offered = offer_path s g.row g.grade c.offered;
+      no_better = λ o v by. let (u, h, less) = path_offer s o v by in lawful.transitive g.grade u v (c.no_better o u h) less;
     }
 
     -- the layer from the rows' offers is the layer of the paths by one wagon more
-    pub filled_onward : Layer m Fs new base Offers → Layer m Fs new base (On (x ∷ w))
-    filled_onward layer s exists = let c = cell_at new (base + index Fs s) in onward_says s c.grade c.row (layer s exists)
+    pub filled_onward : Layer m Fs layer By → Layer m Fs layer (On (x ∷ w))
+    filled_onward told s exists = onward_says s (cell_at layer (index Fs s)) (told s exists)

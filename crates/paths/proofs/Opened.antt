@@ -17,14 +17,16 @@ use Rattle.rowtable.specs.declared.row.TableState.TheVariants.{Head}
 use Rattle.rowtable.specs.declared.row.TableRow.{TableRow}
 use Rattle.rowtable.specs.Tables.{Exists, Held}
 use Rattle.rowtable.specs.Paths.{RowsSay}
+use Rattle.rowtable.specs.Saturated.{SaturatedTable}
 use Rattle.paths.specs.declared.refusal.PathRefusal.{PathRefusal}
 use Rattle.paths.specs.declared.refusal.PathRefusal.TheVariants.{TooLarge, NotOpened, ScratchShort, ListShort, NoWay, BrokenRow}
 use Rattle.paths.specs.Cells.{Sound}
 use Rattle.paths.specs.Layers.{RowWay, PathOf}
 use Rattle.paths.specs.Runs.{Reasoned}
 use Rattle.paths.specs.Answers.{Asked, BestTold, RunsTold, PathLaid, LaidTold, RunLaid}
-use Rattle.paths.specs.Outcomes.{Starts, RowsSayOf, BestRowsTold, RowsLaid, RowsLaidTold}
-use Rattle.paths.proofs.Asking.{opened_opens, used_length, start_head}
+use Rattle.paths.specs.Outcomes.{Starts, RowsSayOf, BestRowsTold, RowsLaid, RowsLaidTold, SaturatedTold, RestLaid}
+use Rattle.unfolding.proofs.Standing.{paths_stand as unfolds}
+use Rattle.paths.proofs.Asking.{saturated_sound, opened_opens, used_length, start_head}
 use Rattle.paths.proofs.Bridge.{best_way, no_way, path_of}
 use Rattle.paths.proofs.Standing.{paths_stand}
 
@@ -114,3 +116,28 @@ module _ {G : Type 0} (m : Ghosts G) (ls : List Line) (p : Phases) (rows : List 
   pub laid_stands : Lawful m → (list : List ℕ) (r : Result G PathRefusal) → LaidTold m ls p rows n x places list r → OpenedBy ls p → Reasoned m ls (used p) rows n → RunLaid m ls p rows n x places list r
   laid_stands lawful list (Ok v) (asked, (room, (sound, laid))) opened reasoned = paths_stand m ls (used p) rows n lawful reasoned x (reverse (take (length x.lane) list)) v (laid opened).path
   laid_stands lawful list (Err e) told opened reasoned = tt
+
+  -- over a table of the saturated rows too, and the path laid out unfolds to it
+  module _ (lawful : Lawful m) (opened : OpenedBy ls p) (table : SaturatedTable m ls (used p) rows n) where
+    pub best_saturated : (r : Result G PathRefusal) → BestRowsTold m ls p rows n x places r → SaturatedTold m ls x r
+    best_saturated (Ok v) (asked, (sound, best)) = best_run lawful opened table.saturated asked v (best_ways asked sound opened v best)
+    best_saturated (Err TooLarge) why = tt
+    best_saturated (Err NotOpened) why = tt
+    best_saturated (Err ScratchShort) why = tt
+    best_saturated (Err ListShort) why = tt
+    best_saturated (Err NoWay) (asked, (sound, none)) = no_run lawful opened table.saturated asked (no_ways asked sound opened none)
+    best_saturated (Err BrokenRow) (asked, broken) = broken (saturated_sound m ls (used p) rows n table)
+
+    pub laid_saturated : (list : List ℕ) (r : Result G PathRefusal) → RowsLaidTold m ls p rows n x places list r → SaturatedTold m ls x r
+    laid_saturated list (Ok v) (asked, (room, (sound, laid))) = best_run lawful opened table.saturated asked v (best_ways asked sound opened v laid.best)
+    laid_saturated list (Err TooLarge) why = tt
+    laid_saturated list (Err NotOpened) why = tt
+    laid_saturated list (Err ScratchShort) why = tt
+    laid_saturated list (Err ListShort) why = tt
+    laid_saturated list (Err NoWay) (room, (asked, (sound, none))) = no_run lawful opened table.saturated asked (no_ways asked sound opened none)
+    laid_saturated list (Err BrokenRow) (room, (asked, broken)) = broken (saturated_sound m ls (used p) rows n table)
+
+    pub laid_unfolds : (list : List ℕ) (r : Result G PathRefusal) → RowsLaidTold m ls p rows n x places list r → RestLaid m ls rows n x list r
+    laid_unfolds list (Ok v) (asked, (room, (sound, laid))) =
+        unfolds m lawful ls rows n (used p) (opened_opens p ls opened) table x laid.start (start_exists asked laid.start laid.starts) (start_head p x laid.start laid.starts) list v room laid.path
+    laid_unfolds list (Err e) told = tt

@@ -1,11 +1,18 @@
 -- Cells: the best that is known of a state with the wagons that are left, kept in layers over a lent table.
-use Rattle.std.specs.Prelude.{◌≡◌, ℕ, ◌+◌, ◌*◌, ◌<◌, ◌≤◌, Bool, false, cond, T, List, length, Some, None, Option, MatchOption, ◌==◌, slice_index_or, slice_set}
+use Rattle.std.specs.Prelude.{◌≡◌, ℕ, ◌+◌, ◌*◌, ◌<◌, ◌≤◌, cond, T, List, length, Some, None, Option, MatchOption, ◌==◌, slice_index_or, slice_set}
+use Rattle.std.specs.List.{All}
+use Rattle.std.specs.Option.{option_map}
+use Rattle.std.specs.Coded.{×_prop, Π_prop, le_prop}
 use Rattle.grade.specs.declared.grade.Grade.{Ghosts}
 use Rattle.rowtable.specs.declared.row.TableState.{TableState}
 use Rattle.rowtable.specs.declared.row.TableState.TheVariants.{Node, Head}
 use Rattle.rowtable.specs.declared.row.TableRow.{TableRow}
 use Rattle.rowtable.specs.Tables.{Exists, row_at}
-use Rattle.paths.specs.declared.cell.Cell.{Cell}
+use Rattle.paths.specs.declared.cell.Step.{Step}
+
+-- a cell, as the program calls it
+abbrev pub Cell : Type 0 → Type 0
+Cell G = Option (Step G)
 
 -- the places of a layer: one for each state, 16 for each phase and 64 for the nodes
 abbrev pub width : List ℕ → ℕ
@@ -16,57 +23,69 @@ abbrev pub index : List ℕ → TableState → ℕ
 index Fs (Node t) = 16 * length Fs + t
 index Fs (Head p i) = 16 * i + p
 
--- a cell of which nothing is known
-abbrev pub no_cell : {G : Type 0} → Cell G
-no_cell = record { grade = None; row = 0 }
-
 abbrev pub cell_at : {G : Type 0} → List (Cell G) → ℕ → Cell G
-cell_at cells k = slice_index_or cells k no_cell
+cell_at cells k = slice_index_or cells k None
+
+-- the grade that is known, if any
+abbrev pub grade_of : {G : Type 0} → Cell G → Option G
+grade_of c = option_map (λ s. s.grade) c
+
+-- an offer that a row makes: none comes without a row
+abbrev pub ByRow : {G : Type 0} → (ℕ → G → Type 0) → Option ℕ → G → Type 0
+ByRow P None v = ⊥
+ByRow P (Some k) v = P k v
 
 module _ {G : Type 0} (m : Ghosts G) where
-  -- `P k v`: place k offers the grade v. Here k offers v, and no place offers a better one.
-  pub record Chosen (P : ℕ → G → Type 0) (k : ℕ) (v : G) : Type 0 where
-    pub offered : P k v
-    pub no_better : (l : ℕ) (u : G) → P l u → T (m.noworse v u)
+  -- `P o v`: the grade v is offered, by the row at the place o or, at None, by ending here. Here the step is offered, and nothing better is.
+  pub record Chosen (P : Option ℕ → G → Type 0) (s : Step G) : Type 0 where
+    pub offered : P s.row s.grade
+    pub no_better : (o : Option ℕ) (u : G) → P o u → T (m.noworse s.grade u)
 
-  -- the cell has the best that is offered, with a place that offers it, or has none where none is
-  abbrev pub Says : (ℕ → G → Type 0) → Cell G → Type 0
-  Says P c = MatchOption c.grade ((k : ℕ) (v : G) → P k v → ⊥) (Chosen P c.row)
+  -- the cell has the best that is offered, with what offers it, or has nothing where nothing is
+  abbrev pub Says : (Option ℕ → G → Type 0) → Cell G → Type 0
+  Says P c = MatchOption c ((o : Option ℕ) (v : G) → P o v → ⊥) (Chosen P)
 
-  -- the cells of all states, from this place on
-  abbrev pub Layer : List ℕ → List (Cell G) → ℕ → (TableState → ℕ → G → Type 0) → Type 0
-  Layer Fs cells base P = (s : TableState) → Exists Fs s → Says (P s) (cell_at cells (base + index Fs s))
+  -- the cells of all states
+  abbrev pub Layer : List ℕ → List (Cell G) → (TableState → Option ℕ → G → Type 0) → Type 0
+  Layer Fs cells P = (s : TableState) → Exists Fs s → Says (P s) (cell_at cells (index Fs s))
 
-  -- what row k offers at the state s with the wagon x on top: its grade joined with what the cell of its other end, in the layer at `behind`, has
-  pub record Via (Fs : List ℕ) (rows : List (TableRow G)) (n x : ℕ) (cells : List (Cell G)) (behind : ℕ) (s : TableState) (k : ℕ) (v : G) : Type 0 where
+  -- what row k offers at the state s with the wagon x on top: its grade joined with what the cell of its other end, in the layer behind, has
+  pub record Via (Fs : List ℕ) (rows : List (TableRow G)) (n x : ℕ) (behind : List (Cell G)) (s : TableState) (k : ℕ) (v : G) : Type 0 where
     pub below : k < n
     pub from : (row_at m rows k).from ≡ s
     pub by : (row_at m rows k).wagon ≡ x
-    pub rest : G
-    pub has : (cell_at cells (behind + index Fs (row_at m rows k).to)).grade ≡ Some rest
-    pub joins : m.join (row_at m rows k).grade rest ≡ v
+    pub rest : Step G
+    pub has : cell_at behind (index Fs (row_at m rows k).to) ≡ Some rest
+    pub joins : m.join (row_at m rows k).grade rest.grade ≡ v
 
-  -- whether a grade, if any, is no worse than v, and so is kept when v is offered
-  abbrev pub keeps : Option G → G → Bool
-  keeps None v = false
-  keeps (Some u) v = m.noworse u v
+  -- what the first n rows offer
+  abbrev pub Offers : (Fs : List ℕ) (rows : List (TableRow G)) (n x : ℕ) (behind : List (Cell G)) → TableState → Option ℕ → G → Type 0
+  Offers Fs rows n x behind s = ByRow (Via Fs rows n x behind s)
 
-  -- a cell after row k offered v: the better of both, and of equals the one that it had
-  abbrev pub bettered : Cell G → ℕ → G → Cell G
-  bettered c k v = cond (keeps c.grade v) c (record { grade = Some v; row = k })
+  -- a cell after a step was offered: the better of both, and of equals the one that it had
+  abbrev pub bettered : Cell G → Step G → Cell G
+  bettered None s = Some s
+  bettered (Some t) s = cond (m.noworse t.grade s.grade) (Some t) (Some s)
 
-  -- the cells after row k was brought in at a place, where the cell of its other end has this grade, if any
-  abbrev pub brought_by : Option G → List (Cell G) → ℕ → ℕ → G → List (Cell G)
-  brought_by None cells place k v = cells
-  brought_by (Some rest) cells place k v = slice_set cells place (bettered (cell_at cells place) k (m.join v rest))
+  -- the layer after row k was brought in at a place, where this is the cell of its other end
+  abbrev pub brought_by : Cell G → List (Cell G) → ℕ → ℕ → G → List (Cell G)
+  brought_by None layer place k v = layer
+  brought_by (Some rest) layer place k v = slice_set layer place (bettered (cell_at layer place) (record { grade = m.join v rest.grade; row = Some k }))
 
-  abbrev pub brought : List ℕ → List (Cell G) → ℕ → ℕ → ℕ → TableRow G → List (Cell G)
-  brought Fs cells base x k r =
-      cond (r.wagon == x) (brought_by (cell_at cells (base + width Fs + index Fs r.to)).grade cells (base + index Fs r.from) k r.grade) cells
+  abbrev pub brought : List ℕ → List (Cell G) → List (Cell G) → ℕ → ℕ → TableRow G → List (Cell G)
+  brought Fs behind layer x k r = cond (r.wagon == x) (brought_by (cell_at behind (index Fs r.to)) layer (index Fs r.from) k r.grade) layer
 
--- from this place on both have the same
-abbrev pub SameFrom : {G : Type 0} → ℕ → List (Cell G) → List (Cell G) → Type 0
-SameFrom place old new = (k : ℕ) → place ≤ k → cell_at new k ≡ cell_at old k
+-- the row leads from a state that exists to one
+abbrev pub Leads : {G : Type 0} → List ℕ → TableRow G → Type 0
+Leads Fs r = Exists Fs r.from × Exists Fs r.to
+
+-- .. which has one proof at most
+Exists-prop : (Fs : List ℕ) (s : TableState) → IsProp (Exists Fs s)
+Exists-prop Fs (Node t) = le_prop
+Exists-prop Fs (Head p i) = ×_prop le_prop le_prop
+
+pub AllLead-prop : {G : Type 0} (Fs : List ℕ) (rows : List (TableRow G)) → IsProp (All (Leads Fs) rows)
+AllLead-prop Fs rows = Π_prop λ k. Π_prop λ d. Π_prop λ _. ×_prop (Exists-prop Fs (slice_index_or rows k d).from) (Exists-prop Fs (slice_index_or rows k d).to)
 
 -- each of the first n rows leads from a state that exists to one
 pub record Sound {G : Type 0} (m : Ghosts G) (Fs : List ℕ) (rows : List (TableRow G)) (n : ℕ) : Type 0 where

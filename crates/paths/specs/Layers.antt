@@ -1,5 +1,5 @@
 -- Layers: what cells know of a state and the wagons that are left.
-use Rattle.std.specs.Prelude.{◌≡◌, ℕ, ◌*◌, ◌<◌, ◌≤◌, List, [], ◌∷◌, length, drop, Option, MatchOption}
+use Rattle.std.specs.Prelude.{◌≡◌, ℕ, ◌<◌, List, [], ◌∷◌, drop, None, Option, MatchOption, slice_get}
 use Rattle.grade.specs.declared.grade.Grade.{Ghosts}
 use Rattle.text.specs.declared.line.Line.{Line}
 use Rattle.model.specs.Grades.{Best}
@@ -10,26 +10,25 @@ use Rattle.rowtable.specs.declared.row.TableState.{TableState}
 use Rattle.rowtable.specs.declared.row.TableRow.{TableRow}
 use Rattle.rowtable.specs.Tables.{row_of, row_at, Held}
 use Rattle.rowtable.specs.Paths.{Ending, RowPath, RowsSay}
-use Rattle.paths.specs.declared.cell.Cell.{Cell}
-use Rattle.paths.specs.Cells.{width, Layer}
+use Rattle.paths.specs.Cells.{Cell, width, Layer}
 
--- with no wagon left, a path may end here, and that is the best
-abbrev pub Stopping : {G : Type 0} → Ghosts G → List Line → TableState → ℕ → G → Type 0
-Stopping m ls s k v = Ending ls s × (v ≡ m.best)
+-- with no wagon left, a path may end here, by no row, and that is the best
+abbrev pub Stopping : {G : Type 0} → Ghosts G → List Line → TableState → Option ℕ → G → Type 0
+Stopping m ls s o v = (o ≡ None) × (Ending ls s × (v ≡ m.best))
 
 module _ {G : Type 0} (m : Ghosts G) (ls : List Line) (rows : List (TableRow G)) (n : ℕ) where
-  -- the grades of the paths from a state by the wagons, with the row that each begins with; with no wagon left there is no such row, and any number stands for it
-  abbrev pub Onward : List ℕ → TableState → ℕ → G → Type 0
-  Onward [] s k v = Stopping m ls s k v
-  Onward (x ∷ w) s k v = (ks : List ℕ) × RowPath m ls rows n s (x ∷ w) (k ∷ ks) v
+  -- the grades of the paths from a state by the wagons, with the row that each begins with, if any
+  abbrev pub Onward : List ℕ → TableState → Option ℕ → G → Type 0
+  Onward w s o v = (ks : List ℕ) × ((slice_get ks 0 ≡ o) × RowPath m ls rows n s w ks v)
 
   -- the best grade that the rows say, or none where they say none
   abbrev pub BestSaid : TableState → List ℕ → Option G → Type 0
   BestSaid s w r = MatchOption r ((v : G) → RowsSay m ls rows n s w v → ⊥) (Best m (RowsSay m ls rows n s w))
 
-  -- the layers from a place of the lane on: each has the best of what the rows say of the wagons from there
-  abbrev pub Layered : List ℕ → List ℕ → List (Cell G) → ℕ → Type 0
-  Layered Fs lane cells place = (q : ℕ) → place ≤ q → q ≤ length lane → Layer m Fs cells (q * width Fs) (Onward (drop q lane))
+  -- layers one after another: the first has the best of what the rows say of the lane, and those behind it the same of the lane without its top wagon
+  abbrev pub Layered : List ℕ → List ℕ → List (Cell G) → Type 0
+  Layered Fs [] cells = Layer m Fs cells (Onward [])
+  Layered Fs (x ∷ w) cells = Layer m Fs cells (Onward (x ∷ w)) × Layered Fs w (drop (width Fs) cells)
 
 module _ {G : Type 0} (m : Ghosts G) (ls : List Line) (Fs : List ℕ) (rows : List (TableRow G)) (n : ℕ) where
   -- the ways that the first n rows make

@@ -1,62 +1,57 @@
 // A path read off the layers, row by row.
-ghost use Rattle.std.specs.Prelude.{◌≡◌, ℕ, ◌+◌, ◌*◌, ◌<◌, ◌≤◌, true, reverse, length, take, is_some, Some};
-ghost use Rattle.grade.specs.Lawful.{Lawful};
+ghost use Rattle.std.specs.Prelude.{◌≡◌, ◌+◌, ◌*◌, ◌≤◌, reverse, length, MatchOption};
 ghost use Rattle.book.specs.Lines.{lines};
-ghost use Rattle.rowtable.specs.Tables.{Exists, row_at};
+ghost use Rattle.rowtable.specs.Tables.{Exists};
 ghost use Rattle.rowtable.specs.Paths.{RowPath};
-ghost use Rattle.paths.specs.Cells.{width, index, cell_at, Sound};
-ghost use Rattle.paths.specs.Layers.{Layered};
+ghost use Rattle.paths.specs.declared.cell.Step.{Step as Found};
+ghost use Rattle.paths.specs.Cells.{width, index, cell_at};
+ghost use Rattle.paths.specs.Layers.{Layered, BestSaid};
 
 use crate::cell::Cell;
-use crate::states::{layer_width, state_index};
-use book::tables::Book;
+use crate::sound::SoundRows;
 use grade::grade::Grade;
-use rowtable::row::{TableRow, TableState};
+use grade::theorems::lawful;
+use rowtable::row::TableState;
 
-fn row_of_cell<G: Grade>(cells: &[Cell<G>], place: usize) -> usize
-    requires { place < length cells.now }
-    ensures { result ≡ (cell_at cells.now place).row }
-{
-    cells[place].row
-}
+impl<'a, G: Grade> SoundRows<'a, G> {
+    // Puts the rows of a best path from a state by the lane on the list, if there is one: a row for each wagon, the first on top.
+    fn lay(&self, state: TableState, lane: &[u8], cells: &[Cell<G>], list: &mut [usize])
+        requires exists { Exists self.now.phases.now state }
+        requires room { (length lane.now + 1) * width self.now.phases.now ≤ length cells.now }
+        requires places { length list.old ≡ length lane.now }
+        requires layered { Layered G.Grade.own (lines self.now.book.now) self.now.rows.now (length self.now.rows.now) self.now.phases.now lane.now cells.now }
+        ensures { MatchOption (cell_at cells.now (index self.now.phases.now state)) (list.new ≡ list.old)
+            (λ (s : Found G). RowPath G.Grade.own (lines self.now.book.now) self.now.rows.now (length self.now.rows.now) state lane.now (reverse list.new) s.grade) }
+    {
+        lawful::<G>();
+        let Some((slot, below)) = list.split_last_mut() else {
+            return;
+        };
+        let Some(place) = cells[self.index(state)].and_then(|step| step.row) else {
+            return;
+        };
+        *slot = place;
+        let (_, behind) = cells.split_at(self.width());
+        self.lay(self.rows[place].to, &lane[1..], behind, below);
+    }
 
-fn other_end<G: Grade>(rows: &[TableRow<G>], place: usize) -> TableState
-    requires { place < length rows.now }
-    ensures { result ≡ (row_at G.Grade.own rows.now place).to }
-{
-    rows[place].to
-}
-
-// Puts the rows of the path from a state by the lane on the list, the first on top. The book is there for the contract.
-pub(crate) fn lay<G: Grade>(
-    book: &Book,
-    phases: &[u64],
-    rows: &[TableRow<G>],
-    count: usize,
-    start: TableState,
-    lane: &[u8],
-    cells: &[Cell<G>],
-    list: &mut [usize],
-)
-    requires few { length phases.now ≤ 32 }
-    requires sound { Sound G.Grade.own phases.now rows.now count }
-    requires exists { Exists phases.now start }
-    requires short { length lane.now ≤ 32 }
-    requires room { (length lane.now + 1) * width phases.now ≤ length cells.now }
-    requires places { length lane.now ≤ length list.old }
-    requires lawful { Lawful G.Grade.own }
-    requires layered { Layered G.Grade.own (lines book.now) rows.now count phases.now lane.now cells.now 0 }
-    requires some { is_some (cell_at cells.now (0 + index phases.now start)).grade ≡ true }
-    ensures { (v : G) → (cell_at cells.now (0 + index phases.now start)).grade ≡ Some v
-        → RowPath G.Grade.own (lines book.now) rows.now count start lane.now (reverse (take (length lane.now) list.new)) v }
-{
-    let width = layer_width(phases);
-    let mut state = start;
-    let mut base = 0;
-    for at in 0..lane.len() {
-        let place = row_of_cell(cells, base + state_index(phases, state));
-        list[lane.len() - 1 - at] = place;
-        state = other_end(rows, place);
-        base += width;
+    // Lays out a best path from a state, if there is one, and tells its grade.
+    pub(crate) fn lay_best(
+        &self,
+        start: TableState,
+        lane: &[u8],
+        cells: &mut [Cell<G>],
+        list: &mut [usize],
+    ) -> Option<G>
+        requires exists { Exists self.now.phases.now start }
+        requires room { (length lane.now + 1) * width self.now.phases.now ≤ length cells.old }
+        requires places { length list.old ≡ length lane.now }
+        ensures told { BestSaid G.Grade.own (lines self.now.book.now) self.now.rows.now (length self.now.rows.now) start lane.now result }
+        ensures laid { MatchOption result (list.new ≡ list.old)
+            (RowPath G.Grade.own (lines self.now.book.now) self.now.rows.now (length self.now.rows.now) start lane.now (reverse list.new)) }
+    {
+        let grade = self.best_from(start, lane, cells);
+        self.lay(start, lane, cells, list);
+        grade
     }
 }

@@ -9,7 +9,7 @@ mod lay;
 mod layer;
 mod layers;
 pub mod refusal;
+mod sound;
 mod start;
-mod states;
 mod stops;
 pub mod theorems;

@@ -1,5 +1,5 @@
 // The layer with no wagon left: where a path may end.
-ghost use Rattle.std.specs.Prelude.{◌≡◌, ℕ, ◌+◌, ◌*◌, ◌<◌, ◌≤◌, length, Decides};
+ghost use Rattle.std.specs.Prelude.{◌≡◌, ◌<◌, length, Decides};
 ghost use Rattle.book.specs.Lines.{lines};
 ghost use Rattle.rowtable.specs.declared.row.TableState.{TableState as Place};
 ghost use Rattle.rowtable.specs.Tables.{Exists};
@@ -7,53 +7,46 @@ ghost use Rattle.rowtable.specs.Paths.{Ending};
 ghost use Rattle.paths.specs.Cells.{width, index, Says, Layer};
 ghost use Rattle.paths.specs.Layers.{Stopping};
 
-use crate::cell::Cell;
-use crate::states::layer_width;
-use book::tables::Book;
+use crate::cell::{Cell, Step};
+use crate::sound::SoundRows;
 use grade::grade::Grade;
 use grade::theorems::lawful;
 
-// Whether a path may end at the state with this number.
-fn stops(book: &Book, phases: &[u64], number: usize) -> bool
-    requires few { length phases.now ≤ 32 }
-    requires within { number < width phases.now }
-    ensures { (s : Place) → Exists phases.now s → index phases.now s ≡ number → Decides result (Ending (lines book.now) s) }
-{
-    let heads = 16 * phases.len();
-    if number < heads {
-        book.bares[number % 16]
-    } else {
-        book.ends[number - heads]
-    }
-}
-
-// The cell of the state with this number.
-fn end_cell<G: Grade>(book: &Book, phases: &[u64], number: usize) -> Cell<G>
-    requires few { length phases.now ≤ 32 }
-    requires within { number < width phases.now }
-    ensures { (s : Place) → Exists phases.now s → index phases.now s ≡ number → Says G.Grade.own (Stopping G.Grade.own (lines book.now) s) result }
-{
-    lawful::<G>();
-    if stops(book, phases, number) {
-        Cell {
-            grade: Some(G::best_grade()),
-            row: 0,
-        }
-    } else {
-        Cell {
-            grade: None,
-            row: 0,
+impl<'a, G: Grade> SoundRows<'a, G> {
+    // Whether a path may end at the state with this number.
+    fn stops(&self, number: usize) -> bool
+        requires { number < width self.now.phases.now }
+        ensures { (s : Place) → Exists self.now.phases.now s → index self.now.phases.now s ≡ number
+            → Decides result (Ending (lines self.now.book.now) s) }
+    {
+        let heads = 16 * self.phases.len();
+        if number < heads {
+            self.book.bares[number % 16]
+        } else {
+            self.book.ends[number - heads]
         }
     }
-}
 
-pub(crate) fn last_layer<G: Grade>(book: &Book, phases: &[u64], cells: &mut [Cell<G>], base: usize)
-    requires few { length phases.now ≤ 32 }
-    requires room { base + width phases.now ≤ length cells.old }
-    ensures { Layer G.Grade.own phases.now cells.new base (Stopping G.Grade.own (lines book.now)) }
-{
-    let width = layer_width(phases);
-    for i in 0..width {
-        cells[base + i] = end_cell(book, phases, i);
+    // The cell of the state with this number.
+    fn end_cell(&self, number: usize) -> Cell<G>
+        requires { number < width self.now.phases.now }
+        ensures { (s : Place) → Exists self.now.phases.now s → index self.now.phases.now s ≡ number
+            → Says G.Grade.own (Stopping G.Grade.own (lines self.now.book.now) s) result }
+    {
+        lawful::<G>();
+        let end = Step {
+            grade: G::best_grade(),
+            row: None,
+        };
+        self.stops(number).then_some(end)
+    }
+
+    pub(crate) fn last_layer(&self, layer: &mut [Cell<G>])
+        requires { length layer.old ≡ width self.now.phases.now }
+        ensures { Layer G.Grade.own self.now.phases.now layer.new (Stopping G.Grade.own (lines self.now.book.now)) }
+    {
+        for (number, cell) in layer.iter_mut().enumerate() {
+            *cell = self.end_cell(number);
+        }
     }
 }
