@@ -59,22 +59,11 @@ fn print_rows<G: Grade + Shown>(
     Ok(())
 }
 
-fn path_number(refusal: PathRefusal) -> u8 {
-    match refusal {
-        PathRefusal::TooLarge => 9,
-        PathRefusal::NotOpened => 10,
-        PathRefusal::ScratchShort => 11,
-        PathRefusal::ListShort => 12,
-        PathRefusal::NoWay => 13,
-        PathRefusal::BrokenRow => 14,
-    }
-}
-
 pub fn print_path_refusal(rt: &HostRuntime, refusal: PathRefusal) -> anyhow::Result<()> {
     match refusal {
         PathRefusal::NoWay => println!(rt; "no way")?,
         _ => {
-            let number = path_number(refusal);
+            let number = refusal.number();
             println!(rt; "refused {number}")?;
         }
     }
@@ -95,9 +84,7 @@ fn print_ways<G: Grade + Shown>(
             &done.phases,
             rows,
             done.rows,
-            ask.mode,
-            ask.phase,
-            ask.lane.as_slice(),
+            &ask.position(),
             scratch.as_mut_slice(),
         );
         match answer {

@@ -1,3 +1,4 @@
+use phases::position::Position;
 use std::alloc::{AllocError, Global};
 
 // A position that is asked about.
@@ -9,6 +10,14 @@ pub struct Ask {
 }
 
 impl Ask {
+    pub fn position(&self) -> Position<'_> {
+        Position {
+            mode: self.mode,
+            phase: self.phase,
+            lane: self.lane.as_slice(),
+        }
+    }
+
     // Takes a number of the part in: the mode is part 0, the phase 1, the lane 2. False where there is no such number in that part.
     fn take(&mut self, part: usize, number: u8) -> Result<bool, AllocError> {
         match part {

@@ -64,9 +64,7 @@ pub fn print_runs<G: Grade + Shown>(
             &done.phases,
             rows,
             done.rows,
-            ask.mode,
-            ask.phase,
-            ask.lane.as_slice(),
+            &ask.position(),
             scratch.as_mut_slice(),
             list.as_mut_slice(),
         );

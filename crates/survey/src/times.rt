@@ -27,9 +27,7 @@ fn ask_all<G: Grade + Shown>(
             &done.phases,
             rows,
             done.rows,
-            ask.mode,
-            ask.phase,
-            ask.lane.as_slice(),
+            &ask.position(),
             scratch,
         );
         if let Ok(grade) = answer {

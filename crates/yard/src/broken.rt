@@ -1,15 +1,16 @@
 // Tables that no working out has filled, and lists that nothing was laid out on.
 use crate::examples::{BEFORE, YARD};
-use crate::finder::{AMPLE, Ask, Finder, read};
+use crate::finder::{AMPLE, Finder, read};
 use grade::minutes::Minutes;
 use paths::refusal::PathRefusal;
+use phases::position::Position;
 use rowtable::blank::blank_row;
 use rowtable::row::{Reason, TableRow, TableState};
 use std::test::*;
 use unfolding::stage::{Stage, UnfoldRefusal};
 use unfolding::unfold::unfold;
 
-const LANE: Ask = Ask {
+const LANE: Position = Position {
     mode: 0,
     phase: BEFORE,
     lane: &[1],

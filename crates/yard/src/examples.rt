@@ -1,8 +1,9 @@
 // Examples with their answers.
-use crate::finder::{AMPLE, Ask, Finder};
+use crate::finder::{AMPLE, Finder};
 use grade::class::Class;
 use grade::minutes::Minutes;
 use paths::refusal::PathRefusal;
+use phases::position::Position;
 use std::alloc::Global;
 use std::test::*;
 use unfolding::stage::Stage;
@@ -27,7 +28,7 @@ fn none_without_way(refusal: PathRefusal) -> Result<Option<u32>, Fail> {
 }
 
 // The minutes of the best way, if there is one.
-fn minutes(heap: Global, finder: &Finder<Minutes>, ask: Ask) -> Result<Option<u32>, Fail> {
+fn minutes(heap: Global, finder: &Finder<Minutes>, ask: Position) -> Result<Option<u32>, Fail> {
     match finder.ask(heap, ask, AMPLE.scratch)? {
         Ok(grade) => Ok(Some(grade.value)),
         Err(refusal) => none_without_way(refusal),
@@ -49,7 +50,7 @@ fn best_grades(rt: HostRuntime) -> Result<(), Fail> {
     ];
     for (mode, phase, lane, expected) in cases {
         assert_eq!(rt;
-            minutes(rt.alloc(), &finder, Ask { mode, phase, lane })?,
+            minutes(rt.alloc(), &finder, Position { mode, phase, lane })?,
             expected
         );
     }
@@ -59,7 +60,7 @@ fn best_grades(rt: HostRuntime) -> Result<(), Fail> {
 #[test]
 fn best_class(rt: HostRuntime) -> Result<(), Fail> {
     let finder = Finder::<Class>::new(rt.alloc(), YARD)?;
-    let ask = Ask {
+    let ask = Position {
         mode: 0,
         phase: BEFORE,
         lane: &[1],
@@ -84,7 +85,7 @@ const MOVES: [(u8, u8, u64, usize); 4] = [
 #[test]
 fn moves_of_the_yard(rt: HostRuntime) -> Result<(), Fail> {
     let finder = Finder::<Minutes>::new(rt.alloc(), YARD)?;
-    let ask = Ask {
+    let ask = Position {
         mode: 0,
         phase: BEFORE,
         lane: &[1],
@@ -117,7 +118,7 @@ fn moves_of_the_yard(rt: HostRuntime) -> Result<(), Fail> {
 #[test]
 fn nothing_to_do(rt: HostRuntime) -> Result<(), Fail> {
     let finder = Finder::<Minutes>::new(rt.alloc(), YARD)?;
-    let ask = Ask {
+    let ask = Position {
         mode: 2,
         phase: BEFORE,
         lane: &[],
@@ -161,7 +162,7 @@ fn moves_shown(
 fn a_long_run_out_of_few_rows(rt: HostRuntime) -> Result<(), Fail> {
     let finder = Finder::<Minutes>::new(rt.alloc(), DOUBLING)?;
     assert_eq!(rt; finder.count, 12);
-    let ask = Ask {
+    let ask = Position {
         mode: 0,
         phase: 0xfff,
         lane: &[11],

@@ -3,9 +3,10 @@ use book::tables::Book;
 use grade::grade::Grade;
 use grade::waiting::Waiting;
 use paths::best::best_way;
-use paths::cell::Cell;
+use paths::cell::Step;
 use paths::laid::lay_out;
 use paths::refusal::PathRefusal;
+use phases::position::Position;
 use phases::table::Phases;
 use rowtable::blank::blank_row;
 use rowtable::row::TableRow;
@@ -15,14 +16,6 @@ use std::alloc::{AllocError, Global};
 use std::test::*;
 use unfolding::stage::{Shown, Stage, UnfoldRefusal};
 use unfolding::unfold::unfold;
-
-// A position: a mode, the phase as a number with bit N for number N, and the wagons of the lane, the top first.
-#[derive(Clone, Copy)]
-pub struct Ask<'a> {
-    pub mode: u8,
-    pub phase: u64,
-    pub lane: &'a [u8],
-}
 
 // How many places a caller hands over.
 #[derive(Clone, Copy)]
@@ -59,13 +52,6 @@ fn filled<T: Copy>(heap: Global, place: T, places: usize) -> Result<Vec<T>, Allo
 fn unused<G: Grade>() -> Waiting<G> {
     Waiting {
         grade: G::best_grade(),
-        row: 0,
-    }
-}
-
-fn unknown<G: Grade>() -> Cell<G> {
-    Cell {
-        grade: None,
         row: 0,
     }
 }
@@ -113,18 +99,16 @@ impl<G: Grade> Finder<G> {
     pub fn ask(
         &self,
         heap: Global,
-        ask: Ask,
+        ask: Position,
         scratch: usize,
     ) -> Result<Result<G, PathRefusal>, Fail> {
-        let mut cells = filled(heap, unknown::<G>(), scratch)?;
+        let mut cells = filled(heap, None::<Step<G>>, scratch)?;
         match best_way(
             &self.book,
             &self.phases,
             self.rows.as_slice(),
             self.count,
-            ask.mode,
-            ask.phase,
-            ask.lane,
+            &ask,
             cells.as_mut_slice(),
         ) {
             Ok(grade) => Ok(Ok(grade)),
@@ -136,19 +120,17 @@ impl<G: Grade> Finder<G> {
     pub fn follow(
         &self,
         heap: Global,
-        ask: Ask,
+        ask: Position,
         places: Places,
     ) -> Result<Result<(G, Vec<usize>), PathRefusal>, Fail> {
-        let mut cells = filled(heap, unknown::<G>(), places.scratch)?;
+        let mut cells = filled(heap, None::<Step<G>>, places.scratch)?;
         let mut list = filled(heap, 0usize, places.list)?;
         match lay_out(
             &self.book,
             &self.phases,
             self.rows.as_slice(),
             self.count,
-            ask.mode,
-            ask.phase,
-            ask.lane,
+            &ask,
             cells.as_mut_slice(),
             list.as_mut_slice(),
         ) {

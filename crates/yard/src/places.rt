@@ -1,10 +1,11 @@
 // What is refused for want of places, and what is not.
 use crate::examples::{BEFORE, YARD};
-use crate::finder::{Ask, Finder, Places, counts, read};
+use crate::finder::{Finder, Places, counts, read};
 use grade::class::Class;
 use grade::grade::Grade;
 use grade::minutes::Minutes;
 use paths::refusal::PathRefusal;
+use phases::position::Position;
 use saturation::refusal::SaturationRefusal;
 use std::alloc::Global;
 use std::process::Abort;
@@ -47,7 +48,7 @@ fn rows_of_the_yard(rt: HostRuntime) -> Result<(), Fail> {
     Ok(())
 }
 
-const LANE: Ask = Ask {
+const LANE: Position = Position {
     mode: 0,
     phase: BEFORE,
     lane: &[1],
@@ -87,7 +88,7 @@ fn lanes_and_limits(rt: HostRuntime) -> Result<(), Fail> {
         (0, &heavy[0..1], true),
     ];
     for (mode, lane, too_large) in cases {
-        let ask = Ask {
+        let ask = Position {
             mode,
             phase: BEFORE,
             lane,
