@@ -9,12 +9,7 @@ use std::io::{Read, Write};
 
 // Whether the book alone is asked for.
 fn book_alone(rt: &HostRuntime) -> anyhow::Result<bool> {
-    for word in env::args(rt)?.skip(1) {
-        if word.as_str() == "--book" {
-            return Ok(true);
-        }
-    }
-    Ok(false)
+    Ok(env::args(rt)?.skip(1).any(|word| word.as_str() == "--book"))
 }
 
 fn run(rt: &HostRuntime) -> anyhow::Result<()> {

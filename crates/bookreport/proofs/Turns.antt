@@ -1,11 +1,16 @@
 -- One line more is entered. Assumes nothing.
-use Rattle.std.proofs.Common.{◌≡◌, ℕ, ◌+◌, List, [], ◌∷◌, ◌++◌, length, sym, refl, ap, ◌∙◌, append_assoc}
+use Rattle.std.proofs.Common.{◌≡◌, ℕ, ◌+◌, ◌≤◌, List, [], ◌∷◌, ◌++◌, length, Ok, Err, Result, sym, refl, ap, ◌∙◌, append_assoc, arith}
 use Rattle.std.proofs.lemmas.List.{length-append}
 use Rattle.std.specs.List.{flat_map}
 use Rattle.text.specs.declared.line.Line.{Line}
+use Rattle.book.specs.declared.refusal.Refusal.{Refusal}
 use Rattle.book.specs.Entering.{entered}
-use Rattle.book.specs.Writing.{book_text, split}
+use Rattle.book.specs.Writing.{book_text}
 use Rattle.bookreport.specs.Report.{Note, Entered, book_after, kept, noted, refused, note_text, words, report}
+
+pub noted_few : (n : ℕ) (r : Result (List Line) Refusal) → length (noted n r) ≤ 1
+noted_few n (Ok ms) = omega arith
+noted_few n (Err e) = omega arith
 
 joined_append : (xs ys : List Note) → flat_map note_text (xs ++ ys) ≡ flat_map note_text xs ++ flat_map note_text ys
 joined_append [] ys = refl
@@ -27,12 +32,7 @@ module _ (ls ms : List Line) (s : List ℕ) (ss rest : List (List ℕ)) (n : ℕ
   count_on = sym (ap length parts ∙ length-append (noted n (entered ls s)) (refused ms (n + 1) ss))
 
 -- what is printed, put together
-pub report_is : (ks ls : List Line) (s none notes out : List ℕ) (read bad standing bytes : ℕ) → ks ≡ [] → none ≡ [] → Entered ks s none ls notes read bad
-    → out ≡ notes ++ book_text ls → standing ≡ length ls → bytes ≡ length (book_text ls) → out ++ words read bad standing bytes ≡ report s
-report_is ks ls s none notes out read bad standing bytes no_lines nothing h e f g =
-    let ss = split s in
-    let listed : ls ≡ book_after [] ss = h.book ∙ ap (λ l. book_after l ss) no_lines in
-    let said : notes ≡ flat_map note_text (refused [] 1 ss) = h.notes ∙ (λ i. nothing i ++ flat_map note_text (refused (no_lines i) 1 ss)) in
-    let count : bad ≡ length (refused [] 1 ss) = h.lines_refused ∙ ap (λ l. length (refused l 1 ss)) no_lines in
-    ap (λ l. l ++ words read bad standing bytes) e ∙ append_assoc notes (book_text ls) (words read bad standing bytes)
-    ∙ (λ i. said i ++ (book_text (listed i) ++ words (h.lines_read i) (count i) ((f ∙ ap length listed) i) ((g ∙ ap (λ l. length (book_text l)) listed) i)))
+pub report_is : (ls : List Line) (s notes out : List ℕ) (read bad bytes : ℕ) → Entered [] s [] ls notes read bad → out ≡ notes ++ book_text ls → bytes ≡ length (book_text ls) → out ++ words read bad (length ls) bytes ≡ report s
+report_is ls s notes out read bad bytes h e g =
+    ap (λ l. l ++ words read bad (length ls) bytes) e ∙ append_assoc notes (book_text ls) (words read bad (length ls) bytes)
+    ∙ (λ i. h.notes i ++ (book_text (h.book i) ++ words (h.lines_read i) (h.lines_refused i) (length (h.book i)) ((g ∙ ap (λ l. length (book_text l)) h.book) i)))

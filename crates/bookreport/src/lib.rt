@@ -2,35 +2,14 @@
 
 #![tactic(auto)]
 
-ghost use Rattle.std.specs.Prelude.{◌≡◌, ℕ, ◌+◌, ◌-◌, ◌<◌, ◌≤◌, List, [], ◌∷◌, ◌++◌, length, IfOk, if◌then◌else◌, string_bytes, MatchOption};
-ghost use Rattle.std.specs.List.{flat_map};
-ghost use Rattle.book.specs.Entering.{entered};
+ghost use Rattle.std.specs.Prelude.{◌≡◌, ◌+◌, ◌^◌, ◌<◌, ◌≤◌, [], ◌++◌, length, IfOk, OnOk, string_bytes};
 ghost use Rattle.book.specs.Lines.{lines};
-ghost use Rattle.book.specs.Writing.{book_text, split};
-ghost use Rattle.bookreport.specs.Report.{Note, kept, noted, book_after, refused, note_text, words, report, book_alone, Entered};
+ghost use Rattle.book.specs.Writing.{book_text};
+ghost use Rattle.bookreport.specs.Report.{note_text, words, report, book_alone, Entered};
 
 use book::refusal::Refusal;
 use book::tables::Book;
 use std::alloc::{AllocError, Global};
-
-// The first line of a text and what follows it; nothing where the text is empty.
-fn split_line(text: &[u8]) -> Option<(&[u8], &[u8])>
-    ensures { MatchOption result (text.now ≡ [])
-        (λ x. (split text.now ≡ x.0.now ∷ split x.1.now) × (length x.1.now < length text.now)) }
-{
-    if text.is_empty() {
-        return None;
-    }
-    let mut i = 0;
-    while i < text.len() && text[i] != b'\n' {
-        i += 1;
-    }
-    if i < text.len() {
-        Some((&text[0..i], &text[i + 1..]))
-    } else {
-        Some((text, &text[i..]))
-    }
-}
 
 // As in: line 3 refused 2 at 7
 fn note(heap: Global, line: usize, refusal: &Refusal) -> Result<String, AllocError>
@@ -41,56 +20,61 @@ fn note(heap: Global, line: usize, refusal: &Refusal) -> Result<String, AllocErr
     format!(in heap; "line {line} refused {number} at {place}\n")
 }
 
-// Enters one line, and notes a refusal; says whether the line was refused.
-fn enter_line(
-    heap: Global,
-    book: &mut Book,
-    line: &[u8],
-    number: usize,
-    notes: &mut Vec<u8>,
-) -> Result<bool, AllocError>
-    ensures { IfOk result (λ no.
-        (notes.new.items ≡ notes.old.items ++ flat_map note_text (noted number (entered (lines book.old) line.now)))
-        × (lines book.new ≡ kept (lines book.old) (entered (lines book.old) line.now))
-        × ((if no then 1 else 0) ≡ length (noted number (entered (lines book.old) line.now)))) }
-{
-    match book.accept(line) {
-        Ok(()) => Ok(false),
-        Err(refusal) => {
-            let text = note(heap, number, &refusal)?;
-            notes.extend_from_slice(text.as_bytes())?;
-            Ok(true)
-        }
-    }
-}
-
-// How many lines were read, and how many of them were refused.
-#[derive(Clone, Copy)]
-struct Counts {
+// What entering the lines of a text leaves: the book, what is noted of each refusal, and how many lines were read and refused.
+#[derive(Drop)]
+struct Entries {
+    book: Book,
+    notes: Vec<u8>,
     read: usize,
     refused: usize,
 }
 
-// Enters the lines of a text one after another, and notes each refusal.
-fn enter_lines(
-    heap: Global,
-    text: &[u8],
-    book: &mut Book,
-    notes: &mut Vec<u8>,
-) -> Result<Counts, AllocError>
-    ensures { IfOk result (λ k. Entered (lines book.old) text.now notes.old.items (lines book.new) notes.new.items k.read k.refused) }
-{
-    let mut rest = text;
-    let mut read = 0;
-    let mut refused = 0;
-    while let Some((line, after)) = split_line(rest) {
-        rest = after;
-        read += 1;
-        if enter_line(heap, book, line, read, notes)? {
-            refused += 1;
+impl Entries {
+    ghost use Rattle.bookreport.specs.Entries.{Enters};
+
+    // Enters one line more, and notes a refusal.
+    fn enter(&mut self, heap: Global, line: &[u8]) -> Result<(), AllocError>
+        requires room { self.old.read + 1 < 2 ^ 64 }
+        requires few { self.old.refused ≤ self.old.read }
+        ensures { OnOk result (Enters self.old line.now self.new) }
+    {
+        self.read += 1;
+        if let Err(refusal) = self.book.accept(line) {
+            self.refused += 1;
+            let note = note(heap, self.read, &refusal)?;
+            self.notes.extend_from_slice(note.as_bytes())?;
         }
+        Ok(())
     }
-    Ok(Counts { read, refused })
+
+    // What is said at the end.
+    fn closing(&self, heap: Global, bytes: usize) -> Result<String, AllocError>
+        ensures { IfOk result (λ t. string_bytes t ≡ words self.now.read self.now.refused (length (lines self.now.book)) bytes) }
+    {
+        let read = self.read;
+        let refused = self.refused;
+        let kept = read.saturating_sub(refused);
+        let standing = self.book.len();
+        format!(in heap;
+            "lines read {read}, kept {kept}, refused {refused}; the book has lines {standing}, bytes {bytes}\n"
+        )
+    }
+}
+
+// Enters the lines of a text one after another into an empty book, and notes each refusal.
+fn enter_lines(heap: Global, text: &[u8]) -> Result<Entries, AllocError>
+    ensures { IfOk result (λ e. Entered [] text.now [] (lines e.book) e.notes.items e.read e.refused) }
+{
+    let mut entries = Entries {
+        book: Book::new(),
+        notes: Vec::new(heap),
+        read: 0,
+        refused: 0,
+    };
+    for line in text.split_inclusive(|byte| *byte == b'\n') {
+        entries.enter(heap, line.strip_suffix(b"\n").unwrap_or(line))?;
+    }
+    Ok(entries)
 }
 
 // Writes the text of a book behind what is there.
@@ -100,41 +84,19 @@ fn append_book(heap: Global, book: &Book, out: &mut Vec<u8>) -> Result<usize, Al
         × (out.new.items ≡ out.old.items ++ book_text (lines book.now))) }
 {
     let mut text = vec![in heap; 0u8; book.text_len()]?;
-    match book.write(text.as_mut_slice()) {
-        Ok(n) => {
-            out.extend_from_slice(text.as_slice())?;
-            Ok(n)
-        }
-        Err(_) => unreachable(),
-    }
-}
-
-// What is said at the end.
-fn closing(
-    heap: Global,
-    counts: Counts,
-    standing: usize,
-    bytes: usize,
-) -> Result<String, AllocError>
-    ensures { IfOk result (λ t. string_bytes t ≡ words counts.read counts.refused standing bytes) }
-{
-    let read = counts.read;
-    let refused = counts.refused;
-    let kept = read.saturating_sub(refused);
-    format!(in heap;
-        "lines read {read}, kept {kept}, refused {refused}; the book has lines {standing}, bytes {bytes}\n"
-    )
+    let n = book.write(text.as_mut_slice()).unwrap();
+    out.extend_from_slice(text.as_slice())?;
+    Ok(n)
 }
 
 // What is printed of a text: each refusal, the book in its one order, and what was done.
 pub fn report_text(heap: Global, text: &[u8]) -> Result<Vec<u8>, AllocError>
     ensures { IfOk result (λ v. v.items ≡ report text.now) }
 {
-    let mut book = Book::new();
-    let mut out = Vec::new(heap);
-    let counts = enter_lines(heap, text, &mut book, &mut out)?;
-    let bytes = append_book(heap, &book, &mut out)?;
-    let last = closing(heap, counts, book.len(), bytes)?;
+    let mut entries = enter_lines(heap, text)?;
+    let bytes = append_book(heap, &entries.book, &mut entries.notes)?;
+    let last = entries.closing(heap, bytes)?;
+    let mut out = entries.notes;
     out.extend_from_slice(last.as_bytes())?;
     Ok(out)
 }
@@ -143,10 +105,8 @@ pub fn report_text(heap: Global, text: &[u8]) -> Result<Vec<u8>, AllocError>
 pub fn book_text(heap: Global, text: &[u8]) -> Result<Vec<u8>, AllocError>
     ensures { IfOk result (λ v. v.items ≡ book_alone text.now) }
 {
-    let mut book = Book::new();
-    let mut notes = Vec::new(heap);
-    enter_lines(heap, text, &mut book, &mut notes)?;
+    let entered = enter_lines(heap, text)?;
     let mut out = Vec::new(heap);
-    append_book(heap, &book, &mut out)?;
+    append_book(heap, &entered.book, &mut out)?;
     Ok(out)
 }

@@ -13,7 +13,7 @@ fn verdict(heap: Global, line: &str) -> Result<String, AllocError> {
     match read_line(line.as_bytes()) {
         Ok(_) => String::from_str(heap, "ok"),
         Err(refused) => {
-            let refusal = Refusal::Line(refused);
+            let refusal = Refusal::from(refused);
             let number = refusal.number();
             let place = refusal.place();
             format!(in heap; "{number} {place}")
@@ -23,25 +23,22 @@ fn verdict(heap: Global, line: &str) -> Result<String, AllocError> {
 
 // Whether a row, which has the verdict that is wanted, a tab and the line, gets that verdict.
 fn agrees(heap: Global, row: &str) -> Result<bool, AllocError> {
-    match row.split_once('\t') {
-        Some((wanted, line)) => {
-            let found = verdict(heap, line)?;
-            Ok(found.as_str() == wanted)
-        }
-        None => Ok(false),
-    }
+    let Some((wanted, line)) = row.split_once('\t') else {
+        return Ok(false);
+    };
+    let found = verdict(heap, line)?;
+    Ok(found.as_str() == wanted)
 }
 
 fn lines(rt: &HostRuntime) -> anyhow::Result<()> {
     let table = fs::read_to_string(rt, "lines.tsv")?;
-    let mut row_number: u32 = 0;
-    let mut agree: u32 = 0;
-    for row in table.as_str().lines() {
-        row_number = row_number.saturating_add(1);
+    // counted here, since telling whether a row agrees may fail, as printing may
+    let mut agree = 0usize;
+    for (i, row) in table.as_str().lines().enumerate() {
         if agrees(rt.alloc(), row)? {
             agree = agree.saturating_add(1);
         } else {
-            println!(rt; "row {row_number} differs")?;
+            println!(rt; "row {} differs", i + 1)?;
         }
     }
     println!(rt; "lines that agree: {agree}")?;

@@ -1,5 +1,6 @@
-use Rattle.std.proofs.Common.{◌≡◌, ◌+◌, ◌≤◌, ◌++◌, length, vec_items}
+use Rattle.std.proofs.Common.{◌≡◌, ◌+◌, ◌≤◌, [], ◌++◌, length, vec_items}
 use Rattle.std.specs.List.{flat_map}
+use Rattle.std.specs.Slice.Iter.{split_inclusive_rest}
 use Rattle.book.specs.Lines.{lines}
 use Rattle.book.specs.Writing.{split}
 use Rattle.bookreport.specs.Report.{book_after, refused, note_text}
@@ -7,12 +8,11 @@ use Rattle.bookreport.proofs.enter_lines.Given as goal
 
 -- what is still to be entered gives the rest
 abbrev pub invariant-loop-line : goal.invariant-loop-line
-invariant-loop-line l =
-    (book_after (lines l.book) (split l.rest) ≡ book_after (lines l.initial.book) (split l.text))
-    × (vec_items l.notes ++ flat_map note_text (refused (lines l.book) (l.read + 1) (split l.rest)) ≡ vec_items l.initial.notes ++ flat_map note_text (refused (lines l.initial.book) 1 (split l.text)))
-    × (l.read + length (split l.rest) ≡ length (split l.text))
-    × (l.refused + length (refused (lines l.book) (l.read + 1) (split l.rest)) ≡ length (refused (lines l.initial.book) 1 (split l.text)))
-    × (l.refused ≤ l.read) × (l.read + length l.rest ≤ length l.text)
-
-abbrev pub decreases-loop-line : goal.decreases-loop-line
-decreases-loop-line l = length l.rest
+invariant-loop-line l = record {
+  book : book_after (lines l.entries.book) (split (split_inclusive_rest l.line-iterator)) ≡ book_after [] (split l.text);
+  notes : vec_items l.entries.notes ++ flat_map note_text (refused (lines l.entries.book) (l.entries.read + 1) (split (split_inclusive_rest l.line-iterator))) ≡ flat_map note_text (refused [] 1 (split l.text));
+  read : l.entries.read + length (split (split_inclusive_rest l.line-iterator)) ≡ length (split l.text);
+  refused : l.entries.refused + length (refused (lines l.entries.book) (l.entries.read + 1) (split (split_inclusive_rest l.line-iterator))) ≡ length (refused [] 1 (split l.text));
+  few : l.entries.refused ≤ l.entries.read;
+  room : l.entries.read + length (split_inclusive_rest l.line-iterator) ≤ length l.text;
+}

@@ -7,4 +7,4 @@ returns c =
     let b = c.in_ok-bytes.ensures in
     c.in_ok-extend_from_slice.ensures.items
     ∙ ap (λ l. vec_items c.append_book.new.out ++ l) (c.as_bytes.ensures.value ∙ c.in_ok-last.ensures)
-    ∙ report_is _ _ c.args.text.now _ _ _ _ _ _ _ c.new-book.ensures c.new-out.ensures.items c.in_ok-counts.ensures b.1 c.len.ensures b.0
+    ∙ report_is _ c.args.text.now _ _ _ _ _ c.in_ok-entries.ensures b.1 b.0
