@@ -1,32 +1,32 @@
 -- What a reader has taken off its line. Assumes nothing.
-use Rattle.std.proofs.Common.{◌≡◌, ℕ, suc, ◌+◌, ◌-◌, ◌*◌, ◌<◌, ◌≤◌, min, Bool, true, cond, eqb, ltb, List, [], ◌∷◌, length, get_or, Err, Option, sym, refl, ap, ◌∙◌, inl, inr, arith}
-use Rattle.std.proofs.lemmas.Bool.{lt-ltb, le-ltb, ltb-true, ltb-false, eq-eqb, ne_eqb, false≢true, cond-true, cond-false, cond_both, cases_Bool}
+use Rattle.std.proofs.Common.{◌≡◌, ℕ, suc, ◌+◌, ◌-◌, ◌*◌, ◌<◌, ◌≤◌, Bool, true, cond, eqb, ltb, List, [], ◌∷◌, length, get_or, Err, Option, Some, None, is_none, unwrap_or, MatchOption, sym, refl, ap, ◌∙◌, subst, ⊎_elim, arith}
+use Rattle.std.proofs.lemmas.Bool.{cases_lt, lt-ltb, le-ltb, eq-eqb, ne_eqb, false≢true, cond-true, cond-false, cond_both}
 use Rattle.grade.specs.declared.upto.UpTo.{UpTo}
 use Rattle.grade.specs.ValuesLemmas.{same_upto}
 use Rattle.text.specs.declared.refusal.LineRefusal.TheVariants.{Syntax}
 use Rattle.text.specs.declared.line_reader.LineReader.{LineReader}
-use Rattle.text.specs.Numerals.{Taken, digit, digits, numeral, starts, kept}
+use Rattle.text.specs.Numerals.{Taken, digit, digits, numeral, held, starts, kept}
 use Rattle.text.specs.Reading.{Next, noted, take_word, take_number, take_numbers}
 use Rattle.text.specs.Steps.{Off, DigitsOff, NumberOff, Lacks, word_then, number_then, numbers_then, another_then, goes_on}
 use Rattle.text.proofs.Steps.{digits_stop}
 
 -- no digit stands next
-pub stopped : (before after : LineReader) (v n : ℕ) → n ≡ min v 65536 → digits v after.place after.rest.now ≡ digits 0 before.place before.rest.now → after.over ≡ before.over → after.falls ≡ before.falls → (0 < length after.rest.now → 48 ≤ get_or after.rest.now 0 0 → get_or after.rest.now 0 0 ≤ 57 → ⊥) → DigitsOff before after n
+pub stopped : (before after : LineReader) (v : ℕ) (n : Option ℕ) → n ≡ held v → digits v after.place after.rest.now ≡ digits 0 before.place before.rest.now → after.over ≡ before.over → after.falls ≡ before.falls → (0 < length after.rest.now → 48 ≤ get_or after.rest.now 0 0 → get_or after.rest.now 0 0 ≤ 57 → ⊥) → DigitsOff before after n
 stopped before after v n is on over falls other =
     let e = sym on ∙ digits_stop v after.place after.rest.now other in
     record {
-      value = is ∙ ap (λ (r : Taken). min r.value 65536) (sym e);
+      value = is ∙ ap (λ (r : Taken). held r.value) (sym e);
       place = sym (ap (λ (r : Taken). r.place) e);
       rest = sym (ap (λ (r : Taken). r.rest) e);
       over = over;
       falls = falls;
     }
 
-pub zero_off : (before after : LineReader) → Off (48 ∷ []) before after → NumberOff before after 0
+pub zero_off : (before after : LineReader) → Off (48 ∷ []) before after → NumberOff before after (Some 0)
 zero_off before after h =
     record {
       begins = ap starts h.rest;
-      value = sym (ap (λ l. min (numeral before.place l).value 65536) h.rest);
+      value = sym (ap (λ l. held (numeral before.place l).value) h.rest);
       place = h.place ∙ sym (ap (λ l. (numeral before.place l).place) h.rest);
       rest = sym (ap (λ l. (numeral before.place l).rest) h.rest);
       over = h.over;
@@ -48,7 +48,7 @@ numeral_shorter p (b ∷ s) e =
     let same : digits 0 p (b ∷ s) ≡ digits v (p + 1) s = cond-true (digit b) _ _ e in
     omega (arith, ap (λ (t : Taken). length t.rest) same, digits_shorter v (p + 1) s))
 
-pub number_shorter : (before after : LineReader) (n : ℕ) → NumberOff before after n → length after.rest.now + 1 ≤ length before.rest.now
+pub number_shorter : (before after : LineReader) (n : Option ℕ) → NumberOff before after n → length after.rest.now + 1 ≤ length before.rest.now
 number_shorter before after n h =
     omega (arith, ap length h.rest, numeral_shorter before.place before.rest.now h.begins)
 
@@ -67,34 +67,54 @@ byte_fails b w (c ∷ s) p over falls next other =
 pub word_off : (b : ℕ) (w : List ℕ) (before : LineReader) (next : Next) → Lacks (b ∷ []) before.rest.now → word_then (b ∷ w) before next ≡ Err (Syntax before.place)
 word_off b w before next other = byte_fails b w before.rest.now before.place before.over before.falls next other
 
-same_test : (limit v n : ℕ) → limit < 65536 → n ≡ min v 65536 → ltb limit v ≡ ltb limit n
-same_test limit v n small e =
-    elim (cases_Bool (ltb limit v)) [
-      | inl y ↦ y ∙ sym (lt-ltb limit n (let h = ltb-true limit v y in omega arith))
-      | inr y ↦ y ∙ sym (le-ltb limit n (let h = ltb-false limit v y in omega arith))
-    ]
+held_small : (v : ℕ) → v < 65536 → held v ≡ Some v
+held_small v lt = cond-true (ltb v 65536) (Some v) None (lt-ltb v 65536 lt)
 
-same_kept : (most v n : ℕ) → most < 65536 → n ≡ min v 65536 → kept most v ≡ kept most n
-same_kept most v n small e =
-    same_upto most (kept most v) (kept most n)
-    (elim (cases_Bool (ltb most v)) [
-      | inl y ↦ cond-true (ltb most v) 0 v y ∙ sym (cond-true (ltb most n) 0 n (sym (same_test most v n small e) ∙ y))
-      | inr y ↦ cond-false (ltb most v) 0 v y ∙ (let h = ltb-false most v y in let z : v ≡ n = omega arith in z) ∙ sym (cond-false (ltb most n) 0 n (sym (same_test most v n small e) ∙ y))
-    ])
+held_large : (v : ℕ) → 65536 ≤ v → held v ≡ None
+held_large v le = cond-false (ltb v 65536) (Some v) None (le-ltb v 65536 le)
+
+-- one more digit
+pub held_more : (v d : ℕ) (n r : Option ℕ) → n ≡ held v → MatchOption n (r ≡ None) (λ x. r ≡ held (x * 10 + d)) → r ≡ held (v * 10 + d)
+held_more v d n r is call =
+    let P : Option ℕ → Type 0 = λ o. MatchOption o (r ≡ None) (λ x. r ≡ held (x * 10 + d)) in
+    ⊎_elim
+    (λ lt. subst P (is ∙ held_small v lt) call)
+    (λ le. subst P (is ∙ held_large v le) call ∙ sym (held_large (v * 10 + d) (omega arith)))
+    (cases_lt v 65536)
+
+-- the number of a value, where it is within its limit
+abbrev LimitedTo : (most v : ℕ) → Option (UpTo most) → Type 0
+LimitedTo most v o = MatchOption o (most < v) (λ x. x.value ≡ v)
+
+limited : (most v : ℕ) (n : Option ℕ) (o : Option (UpTo most)) → most < 65536 → n ≡ held v → MatchOption n (o ≡ None) (λ y. LimitedTo most y o) → LimitedTo most v o
+limited most v n o small is call =
+    let P : Option ℕ → Type 0 = λ m. MatchOption m (o ≡ None) (λ y. LimitedTo most y o) in
+    ⊎_elim
+    (λ lt. subst P (is ∙ held_small v lt) call)
+    (λ le. subst (LimitedTo most v) (sym (subst P (is ∙ held_large v le) call)) (omega arith))
+    (cases_lt v 65536)
+
+above_none : (most v : ℕ) (o : Option (UpTo most)) → LimitedTo most v o → is_none o ≡ ltb most v
+above_none most v None lt = sym (lt-ltb most v lt)
+above_none most v (Some x) e = let le = x.fits in sym (le-ltb most v (omega arith))
+
+kept_else : (most v : ℕ) (o : Option (UpTo most)) (zero : UpTo most) → LimitedTo most v o → zero.value ≡ 0 → (unwrap_or o zero).value ≡ cond (ltb most v) 0 v
+kept_else most v None zero lt e = e ∙ sym (cond-true (ltb most v) 0 v (lt-ltb most v lt))
+kept_else most v (Some x) zero e z = let le = x.fits in e ∙ sym (cond-false (ltb most v) 0 v (le-ltb most v (omega arith)))
 
 -- a number and what follows it, with the two places noted
-pub number_off : (before after : LineReader) (most least n : ℕ) (over falls : Option ℕ) (x : UpTo most) (next : UpTo most → Next) → most < 65536 → NumberOff before after n
-    → x ≡ kept most n
-    → over ≡ noted after.over before.place (ltb most n)
-    → falls ≡ noted after.falls before.place (ltb x.value least)
-    → number_then most least before next ≡ next x after.rest.now after.place over falls
-number_off before after most least n over falls x next small h is o f =
+pub number_off : (before after : LineReader) (most least : ℕ) (n : Option ℕ) (o : Option (UpTo most)) (zero : UpTo most) (next : UpTo most → Next) → most < 65536 → NumberOff before after n
+    → MatchOption n (o ≡ None) (λ y. LimitedTo most y o)
+    → zero.value ≡ 0
+    → number_then most least before next
+    ≡ next (unwrap_or o zero) after.rest.now after.place (noted after.over before.place (is_none o)) (noted after.falls before.place (ltb (unwrap_or o zero).value least))
+number_off before after most least n o zero next small h call z =
     let v = (numeral before.place before.rest.now).value in
-    let y = same_kept most v n small h.value ∙ sym is in
+    let within = limited most v n o small h.value call in
+    let over = sym (above_none most v o within) in
+    let x : kept most v ≡ unwrap_or o zero = sym (same_upto most (unwrap_or o zero) (kept most v) (kept_else most v o zero within z)) in
     cond-true (starts before.rest.now) _ _ h.begins
-    ∙ (λ i. next (y i) (sym h.rest i) (sym h.place i)
-    (((λ j. noted (sym h.over j) before.place (same_test most v n small h.value j)) ∙ sym o) i)
-    (((λ j. noted (sym h.falls j) before.place (ltb (y j).value least)) ∙ sym f) i))
+    ∙ (λ i. next (x i) (sym h.rest i) (sym h.place i) (noted (sym h.over i) before.place (over i)) (noted (sym h.falls i) before.place (ltb (x i).value least)))
 
 -- a blank stands next
 blank_next : (s t : List ℕ) (p : ℕ) (over falls : Option ℕ) (n most least : ℕ) (rise : Bool) (next : List (UpTo most) → Next) → s ≡ 32 ∷ t

@@ -1,5 +1,5 @@
 -- Numbers in a line of text: 0, or digits of which the first is 1 to 9.
-use Rattle.std.specs.Prelude.{◌≡◌, ℕ, ◌+◌, ◌-◌, ◌*◌, ◌≤◌, Bool, true, false, cond, ◌&&◌, ◌⊎◌, List, [], ◌∷◌, ◌==◌, ◌≢◌, nat_le, nat_lt}
+use Rattle.std.specs.Prelude.{◌≡◌, ℕ, ◌+◌, ◌-◌, ◌*◌, ◌≤◌, Bool, true, false, cond, ◌&&◌, ◌⊎◌, List, [], ◌∷◌, Some, None, Option, ◌==◌, ◌≢◌, nat_le, nat_lt}
 use Rattle.std.proofs.Common.{arith}
 use Rattle.std.proofs.lemmas.Bool.{cond_both, ltb-false}
 use Rattle.grade.specs.declared.upto.UpTo.{UpTo}
@@ -38,6 +38,10 @@ digits n p (b ∷ bs) = cond (digit b) (digits (n * 10 + (b - 48)) (p + 1) bs) (
 abbrev pub numeral : ℕ → List ℕ → Taken
 numeral p [] = record { value = 0; place = p; rest = [] }
 numeral p (b ∷ bs) = cond (b == 48) (record { value = 0; place = p + 1; rest = bs }) (digits 0 p (b ∷ bs))
+
+-- the value where 16 bits hold it
+abbrev pub held : ℕ → Option ℕ
+held v = cond (nat_lt v 65536) (Some v) None
 
 abbrev pub starts : List ℕ → Bool
 starts [] = false

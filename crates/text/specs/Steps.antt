@@ -1,11 +1,11 @@
 -- What is left to read of a line, as a reader has it.
-use Rattle.std.specs.Prelude.{◌≡◌, ℕ, ◌+◌, min, Bool, true, cond, List, [], ◌∷◌, ◌++◌, length, Some, None, Option, ◌≢◌}
+use Rattle.std.specs.Prelude.{◌≡◌, ℕ, ◌+◌, Bool, true, cond, List, [], ◌∷◌, ◌++◌, length, Some, None, Option, ◌≢◌}
 use Rattle.grade.specs.declared.upto.UpTo.{UpTo}
 use Rattle.text.specs.declared.line.Line.{Line}
 use Rattle.text.specs.declared.form_name.FormName.{FormName}
 use Rattle.text.specs.declared.line_reader.LineReader.{LineReader}
 use Rattle.text.specs.Names.{name}
-use Rattle.text.specs.Numerals.{digits, numeral, starts}
+use Rattle.text.specs.Numerals.{digits, numeral, held, starts}
 use Rattle.text.specs.Forms.{Part, Values}
 use Rattle.text.specs.Reading.{Outcome, Next, scan, take_word, take_number, take_numbers}
 
@@ -35,18 +35,18 @@ abbrev pub after_another : ℕ → (most : ℕ) → Bool → Option (UpTo most) 
 after_another n most rise None r next = goes_on (next []) r
 after_another n most rise (Some x) r next = numbers_then n most rise (cond rise (x.value + 1) 0) r (λ xs. next (x ∷ xs))
 
--- digits were taken off the line as far as they go, and n is their value, 65,536 for any above that
-pub record DigitsOff (before after : LineReader) (n : ℕ) : Type 0 where
-  pub value : n ≡ min (digits 0 before.place before.rest.now).value 65536
+-- digits were taken off the line as far as they go, and n is their value, where 16 bits hold it
+pub record DigitsOff (before after : LineReader) (n : Option ℕ) : Type 0 where
+  pub value : n ≡ held (digits 0 before.place before.rest.now).value
   pub place : after.place ≡ (digits 0 before.place before.rest.now).place
   pub rest : after.rest.now ≡ (digits 0 before.place before.rest.now).rest
   pub over : after.over ≡ before.over
   pub falls : after.falls ≡ before.falls
 
--- a number was taken off the line, and n is its value, 65,536 for any above that
-pub record NumberOff (before after : LineReader) (n : ℕ) : Type 0 where
+-- a number was taken off the line, and n is its value, where 16 bits hold it
+pub record NumberOff (before after : LineReader) (n : Option ℕ) : Type 0 where
   pub begins : starts before.rest.now ≡ true
-  pub value : n ≡ min (numeral before.place before.rest.now).value 65536
+  pub value : n ≡ held (numeral before.place before.rest.now).value
   pub place : after.place ≡ (numeral before.place before.rest.now).place
   pub rest : after.rest.now ≡ (numeral before.place before.rest.now).rest
   pub over : after.over ≡ before.over

@@ -1,6 +1,6 @@
 // Reading a line from its front on.
-ghost use Rattle.std.specs.Prelude.{◌≡◌, ◌+◌, ◌≤◌, length};
-ghost use Rattle.text.specs.Numerals.{kept};
+ghost use Rattle.std.specs.Prelude.{◌≡◌, ◌+◌, ◌*◌, ◌<◌, ◌≤◌, length, MatchOption};
+ghost use Rattle.text.specs.Numerals.{held};
 
 use crate::form_name::FormName;
 use crate::line::{Line, NoticeLine, OrderLine, Wagons};
@@ -97,27 +97,28 @@ impl<'a> LineReader<'a> {
         Ok(())
     }
 
-    // Takes digits off the line and gives their value, 65,536 for any above that.
-    fn digits(&mut self) -> u32
+    // Takes digits off the line and gives their value, where 16 bits hold it.
+    fn digits(&mut self) -> Option<u16>
         ensures { DigitsOff self.old self.new result }
     {
-        let mut n: u32 = 0;
+        let mut n = Some(0);
         while let [d @ b'0'..=b'9', rest @ ..] = self.rest {
-            n = (n * 10 + u32::from(*d - b'0')).min(65_536);
+            let digit = *d - b'0';
+            n = n.and_then(|n| with_digit(n, digit));
             self.rest = rest;
             self.place += 1;
         }
         n
     }
 
-    // Takes a number of any length off the line and gives its value, 65,536 for any above that.
-    fn numeral(&mut self) -> Result<u32, LineRefusal>
+    // Takes a number of any length off the line and gives its value, where 16 bits hold it.
+    fn numeral(&mut self) -> Result<Option<u16>, LineRefusal>
         ensures { MatchResult result
             (λ n. NumberOff self.old self.new n)
             (λ e. (starts self.old.rest.now ≡ false) × (e ≡ Syntax self.old.place)) }
     {
         if self.takes(b'0') {
-            return Ok(0);
+            return Ok(Some(0));
         }
         match self.rest {
             [b'1'..=b'9', ..] => Ok(self.digits()),
@@ -133,11 +134,11 @@ impl<'a> LineReader<'a> {
             (λ e. (next : UpTo MAX → Next) → number_then MAX least self.old next ≡ Err e) }
     {
         let at = self.place;
-        let n = self.numeral()?;
-        let x = within::<MAX>(n);
-        self.over = self.over.or((u32::from(MAX) < n).then_some(at));
-        self.falls = self.falls.or((x.value < least).then_some(at));
-        Ok(x)
+        let within = up_to::<MAX>(self.numeral()?);
+        let number = within.unwrap_or(UpTo { value: 0 });
+        self.over = self.over.or(within.is_none().then_some(at));
+        self.falls = self.falls.or((number.value < least).then_some(at));
+        Ok(number)
     }
 
     // Takes a number up to MAX off the line.
@@ -325,12 +326,16 @@ impl<'a> LineReader<'a> {
     }
 }
 
-// The number where it is at most MAX, else 0.
-fn within<const MAX: u16>(n: u32) -> UpTo<MAX>
-    ensures { result ≡ kept MAX n }
+// The number, where there is one and it is at most MAX.
+fn up_to<const MAX: u16>(n: Option<u16>) -> Option<UpTo<MAX>>
+    ensures { MatchOption n (result ≡ None) (λ y. MatchOption result (MAX < y) (λ x. x.value ≡ y)) }
 {
-    match u16::try_from(n) {
-        Ok(value) if value <= MAX => UpTo { value },
-        _ => UpTo { value: 0 },
-    }
+    UpTo::new(n?)
+}
+
+// The number with one more digit behind it, where 16 bits hold it.
+fn with_digit(n: u16, digit: u8) -> Option<u16>
+    ensures { result ≡ held (n * 10 + digit) }
+{
+    n.checked_mul(10)?.checked_add(u16::from(digit))
 }
