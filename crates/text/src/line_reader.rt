@@ -165,6 +165,7 @@ impl<'a> LineReader<'a> {
     }
 
     // The line ends here, no number is above its limit, and none fails to rise.
+    #[tactic(auto, unfolding(crate::specs::Reading::scan))]
     fn end(&mut self) -> Result<(), LineRefusal>
         ensures { MatchResult result
             (λ _. (line : Values [] → Line) → scanned [] line self.old ≡ Ok (line tt))
