@@ -1,16 +1,17 @@
 -- The rows that wait at the start.
-use Rattle.std.proofs.Common.{◌≡◌, ℕ, ◌<◌, ◌≤◌, List, [], length, get_or, take, sym, refl, ◌∙◌, subst, arith}
+use Rattle.std.proofs.Common.{◌≡◌, ℕ, ◌<◌, ◌≤◌, List, [], length, get_or, take, Some, Option, sym, refl, ap, ◌∙◌, subst, arith}
 use Rattle.std.specs.List.{ContainsAt as Has}
 use Rattle.std.proofs.lemmas.List.{length-take, get_or-take, get_or_default}
 use Rattle.grade.specs.declared.grade.Grade.{Ghosts}
 use Rattle.grade.specs.Lawful.{Lawful}
 use Rattle.text.specs.declared.line.Line.TheVariants as line
+use Rattle.text.specs.declared.line.Rule.{Rule}
+use Rattle.text.specs.declared.line.Rule.TheVariants as rule
 use Rattle.text.specs.declared.line.OrderLine.{OrderLine}
 use Rattle.text.specs.declared.line.WatchLine.{WatchLine}
 use Rattle.text.specs.declared.line.LinkLine.{LinkLine}
 use Rattle.model.specs.Phases.{Stands, InForce, Opened}
 use Rattle.model.specs.Moves.{laid_down}
-use Rattle.book.specs.declared.rule.Rule.TheVariants as rule
 use Rattle.book.specs.declared.tables.Book.{Book}
 use Rattle.book.specs.Tables.{blank_watch, blank_link}
 use Rattle.book.specs.Lines.{lines}
@@ -24,6 +25,13 @@ use Rattle.saturation.specs.Start.{RuleBegun, OrderBegun}
 -- what stands at one of the first places is among them
 pub row_taken : {X : Type 0} (xs : List X) (n k : ℕ) (d x : X) → k < n → n ≤ length xs → get_or xs k d ≡ x → Has (take n xs) x
 row_taken xs n k d x low fits is = let long = length-take n xs in (k, omega arith, λ e. get_or-take n xs k e low ∙ get_or_default xs k e d (omega arith) ∙ is)
+
+-- what is read of the first places is what stands there in the whole
+pub item_read : {X : Type 0} (xs items : List X) (n k : ℕ) (x d : X) → items ≡ take n xs → n ≤ length xs → k < length items → x ≡ get_or items k x → (k < n) × (x ≡ get_or xs k d)
+item_read xs items n k x d first fits within read =
+    let long = ap length first ∙ length-take n xs in
+    let low : k < n = omega arith in
+    (low, read ∙ ap (λ ys. get_or ys k x) first ∙ get_or-take n xs k x low ∙ get_or_default xs k x d (omega arith))
 
 module _ {G : Type 0} {m : Ghosts G} (lawful : Lawful m) (Fs : List ℕ) (b : Book) where
   pub begins_link : (k : ℕ) (v : LinkLine) → k < b.linking → get_or b.links k blank_link ≡ v → Begins m Fs (lines b) (row_by_line m (Node v.node.value) v.wagon.value (Node v.to.value))
@@ -73,13 +81,10 @@ module _ {G : Type 0} {m : Ghosts G} (lawful : Lawful m) (Fs : List ℕ) (b : Bo
     placed = ((o.mode.fits, lt), (o.to.fits, lt));
   }
 
--- one rule stands at a place
-module _ {G : Type 0} (m : Ghosts G) (Fs : List ℕ) (b : Book) (k : ℕ) (rows : List (TableRow G)) (n : ℕ) where
-  pub rule_other : ((o : OrderLine) → get_or b.rules k rule.Free ≡ rule.Order o → ⊥) → RuleBegun m Fs b k rows n
+-- it is one rule whose rows wait
+module _ {G : Type 0} (m : Ghosts G) (Fs : List ℕ) (f : Option Rule) (rows : List (TableRow G)) (n : ℕ) where
+  pub rule_other : ((o : OrderLine) → f ≡ Some (rule.Order o) → ⊥) → RuleBegun m Fs f rows n
   rule_other none o e = absurd (none o e)
 
-  pub rule_laid : (o : OrderLine) → get_or b.rules k rule.Free ≡ rule.Order o → (laid_down o ≡ [] → ⊥) → RuleBegun m Fs b k rows n
-  rule_laid o e laid c f i lt lone = let same : c ≡ o = cc in absurd (laid (subst (λ z. laid_down z ≡ []) same lone))
-
-  pub rule_lone : (o : OrderLine) → get_or b.rules k rule.Free ≡ rule.Order o → ((i : ℕ) → i < length Fs → OrderBegun m Fs o i rows n) → RuleBegun m Fs b k rows n
-  rule_lone o e begun c f = let same : o ≡ c = cc in subst (λ z. (i : ℕ) → i < length Fs → OrderBegun m Fs z i rows n) same begun
+  pub rule_lone : (o : OrderLine) → f ≡ Some (rule.Order o) → ((i : ℕ) → i < length Fs → OrderBegun m Fs o i rows n) → RuleBegun m Fs f rows n
+  rule_lone o e begun c is = let same : o ≡ c = cc in subst (λ z. (i : ℕ) → i < length Fs → OrderBegun m Fs z i rows n) same begun

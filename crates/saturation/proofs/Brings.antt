@@ -1,24 +1,24 @@
 -- What a settled row brings by one rule.
-use Rattle.std.proofs.Common.{◌≡◌, ℕ, ◌<◌, ◌⊎◌, List, [], ◌∷◌, length, get_or, Option, sym, refl, ap, ◌∙◌, subst, ap₂, inl, inr, arith}
+use Rattle.std.proofs.Common.{◌≡◌, ℕ, ◌<◌, ◌⊎◌, min, List, [], ◌∷◌, length, get_or, Some, None, Option, sym, refl, ap, ◌∙◌, subst, ap₂, inl, inr, arith}
 use Rattle.grade.specs.declared.grade.Grade.{Ghosts}
 use Rattle.grade.specs.declared.waiting.Waiting.{Waiting}
 use Rattle.grade.specs.Lawful.{Lawful}
 use Rattle.text.specs.declared.line.Line.{Line}
 use Rattle.text.specs.declared.line.Line.TheVariants as line
+use Rattle.text.specs.declared.line.Rule.{Rule as LineRule}
+use Rattle.text.specs.declared.line.Rule.TheVariants as rule
 use Rattle.text.specs.declared.line.OrderLine.{OrderLine}
 use Rattle.text.specs.declared.line.NoticeLine.{NoticeLine}
 use Rattle.text.specs.declared.line.Wagons.{Wagons}
 use Rattle.text.specs.declared.line.Wagons.TheVariants.{Zero, One, Two}
-use Rattle.book.specs.declared.tables.Book.{Book}
-use Rattle.book.specs.declared.rule.Rule.TheVariants as rule
 use Rattle.model.specs.Phases.{Stands}
 use Rattle.model.specs.Moves.{laid_down}
 use Rattle.rows.specs.Rows.{State, head, Row, row, wagon, Path, stay, step, Rule, order_rule, notice_rule, premises, noticed_row}
 use Rattle.rowtable.specs.declared.row.TableRow.{TableRow}
 use Rattle.rowtable.specs.Tables.{state_of, row_of}
 use Rattle.rowtable.specs.Reasons.{places, Rests, Reasoned, SettledAt}
-use Rattle.saturation.specs.Work.{Covers, Placed, Grown, Table, Given, Ends, Later, Last, Brings, BringsBoth, Starts, Goes, Noticed, row_by_order, row_by_notice, TriedOrder, TriedNotice, TriedRule}
-use Rattle.saturation.proofs.Growth.{ends_on, went_none, covers_later}
+use Rattle.saturation.specs.Work.{Covers, Placed, Grown, Table, Given, Went, Full, Ends, Later, Last, Brings, BringsBoth, Starts, Goes, Noticed, row_by_order, row_by_notice, TriedOrder, TriedNotice, TriedRule}
+use Rattle.saturation.proofs.Growth.{ends_on, went_none, went_on, full_on, covers_later}
 
 -- reasons speak only of what is At its place
 module _ {G : Type 0} (m : Ghosts G) (Fs : List ℕ) {At At' : ℕ → TableRow G → Type 0} (on : (p : ℕ) (r : TableRow G) → At p r → At' p r) where
@@ -45,12 +45,24 @@ module _ {G : Type 0} {m : Ghosts G} {Fs : List ℕ} where
     given_on on fits r new = record { reasoned = reasoned_on on new.reasoned; fit = fits new.reasoned.rule new.fit; waits = new.waits; placed = new.placed }
 
     -- an offer of a row that is New
-    pub offered : {s n : ℕ} {old : List (TableRow G)} {waited : List (Waiting G)} (New : TableRow G → Type 0) (t : Table m Fs ls old s n waited) (new : List (TableRow G)) (queue : List (Waiting G)) (given row : TableRow G) → given ≡ row → New row
-        → (C : List (TableRow G) → ℕ → Type 0) (r : Option ℕ) → ((l : ℕ) → Covers m Fs new l (row_of Fs row) row.grade → C new l)
-        → Ends m Fs ls s (λ x. x ≡ given) old n waited new queue (λ rows l. Covers m Fs rows l (row_of Fs given) given.grade) r → Ends m Fs ls s New old n waited new queue C r
-    offered New t new queue given row is fits C r f ends =
-        ends_on (went_none t {New = New} {C = Unit {0}} tt) (λ x e. subst New (sym (e ∙ is)) fits) new queue (λ rows l. Covers m Fs rows l (row_of Fs given) given.grade) C r
-        (λ l grown a covers. f l (subst (λ x. Covers m Fs new l (row_of Fs x) x.grade) is covers)) ends
+    pub offered : {s n : ℕ} {old : List (TableRow G)} {waited : List (Waiting G)} (New : TableRow G → Type 0) (t : Table m Fs ls old s n waited) (new : List (TableRow G)) (l : ℕ) (queue : List (Waiting G)) (given row : TableRow G) → given ≡ row → New row
+        → (C : List (TableRow G) → ℕ → Type 0) (r : Option (Unit {0})) → (Covers m Fs new l (row_of Fs row) row.grade → C new l)
+        → Ends m Fs ls s (λ x. x ≡ given) old n waited new l queue (λ rows l. Covers m Fs rows l (row_of Fs given) given.grade) r → Ends m Fs ls s New old n waited new l queue C r
+    offered New t new l queue given row is fits C r f ends =
+        ends_on (went_none t {New = New} {C = Unit {0}} tt) (λ x e. subst New (sym (e ∙ is)) fits) new l queue (λ rows l. Covers m Fs rows l (row_of Fs given) given.grade) C r
+        (λ grown a covers. f (subst (λ x. Covers m Fs new l (row_of Fs x) x.grade) is covers)) ends
+
+    -- one after others, in a loop
+    pub offered_on : {s n k l : ℕ} {old mid new : List (TableRow G)} {waited q queue : List (Waiting G)} {New : TableRow G → Type 0} {A C : Type 0} (went : Went m Fs ls s New old n waited mid k q A) {given row : TableRow G} → given ≡ row → New row
+        → (((i : Row) (g : G) → Covers m Fs mid k i g → Covers m Fs new l i g) → A → Covers m Fs new l (row_of Fs row) row.grade → C)
+        → Went m Fs ls s (λ x. x ≡ given) mid k q new l queue (Covers m Fs new l (row_of Fs given) given.grade) → Went m Fs ls s New old n waited new l queue C
+    offered_on {l = l} {new = new} {New = New} went {given} {row} is fits f two =
+        went_on went (λ x e. subst New (sym (e ∙ is)) fits)
+        (λ grown a covers. f (λ i g. covers_later i g went.table.lawful grown) a (subst (λ x. Covers m Fs new l (row_of Fs x) x.grade) is covers)) two
+
+    pub offered_full : {s n k : ℕ} {old mid : List (TableRow G)} {waited q : List (Waiting G)} {New : TableRow G → Type 0} {A : Type 0} (went : Went m Fs ls s New old n waited mid k q A) {given row : TableRow G} → given ≡ row → New row
+        → Full m Fs ls s (λ x. x ≡ given) mid k (min (length mid) (length q)) → Full m Fs ls s New old n (min (length old) (length waited))
+    offered_full {New = New} went is fits full = full_on went (λ x e. subst New (sym (e ∙ is)) fits) full
 
     -- rows that rules give from settled rows
     module _ {rows : List (TableRow G)} {s n : ℕ} {queue : List (Waiting G)} (t : Table m Fs ls rows s n queue) where
@@ -151,8 +163,8 @@ module _ {G : Type 0} (m : Ghosts G) (Fs : List ℕ) (x : TableRow G) where
     order_later At o (One w) tried = λ i st. covers_later _ _ lawful grown (tried i st)
     order_later At o (Two v w) tried = λ p y at. ((λ i st go. covers_later _ _ lawful grown ((tried p y at).0 i st go)), (λ i st go. covers_later _ _ lawful grown ((tried p y at).1 i st go)))
 
-    pub rule_later : (b : Book) (j : ℕ) (At : ℕ → TableRow G → Type 0) → TriedRule m Fs b j At x mid k → TriedRule m Fs b j At x new n
-    rule_later b j At tried = record {
+    pub rule_later : (f : Option LineRule) (At : ℕ → TableRow G → Type 0) → TriedRule m Fs f At x mid k → TriedRule m Fs f At x new n
+    rule_later f At tried = record {
       orders = λ o e. order_later At o o.wagons (tried.orders o e);
       notices = λ c e i h ntc. covers_later _ _ lawful grown (tried.notices c e i h ntc);
     }
@@ -163,25 +175,25 @@ module _ {G : Type 0} (m : Ghosts G) (Fs : List ℕ) (x : TableRow G) where
     order_from o (One w) tried = tried
     order_from o (Two v w) tried = λ p y at. tried p y (on p y at)
 
-    pub rule_from : (b : Book) (j : ℕ) → TriedRule m Fs b j At x rows n → TriedRule m Fs b j At' x rows n
-    rule_from b j tried = record { orders = λ o e. order_from o o.wagons (tried.orders o e); notices = tried.notices }
+    pub rule_from : (f : Option LineRule) → TriedRule m Fs f At x rows n → TriedRule m Fs f At' x rows n
+    rule_from f tried = record { orders = λ o e. order_from o o.wagons (tried.orders o e); notices = tried.notices }
 
-  -- one rule stands at a place
-  module _ (b : Book) (j : ℕ) (At : ℕ → TableRow G → Type 0) (rows : List (TableRow G)) (n : ℕ) where
-    pub rule_none : get_or b.rules j rule.Free ≡ rule.Free → TriedRule m Fs b j At x rows n
+  -- it is one rule that is tried
+  module _ (f : Option LineRule) (At : ℕ → TableRow G → Type 0) (rows : List (TableRow G)) (n : ℕ) where
+    pub rule_none : f ≡ None → TriedRule m Fs f At x rows n
     rule_none e = record {
-      orders = λ o f. let z : ◌≡◌ {A = ℕ} 0 1 = cc in absurd (omega arith);
-      notices = λ c f. let z : ◌≡◌ {A = ℕ} 0 1 = cc in absurd (omega arith);
+      orders = λ o is. let z : ◌≡◌ {A = ℕ} 0 1 = cc in absurd (omega arith);
+      notices = λ c is. let z : ◌≡◌ {A = ℕ} 0 1 = cc in absurd (omega arith);
     }
 
-    pub rule_order : (o : OrderLine) → get_or b.rules j rule.Free ≡ rule.Order o → TriedOrder m Fs o o.wagons At x rows n → TriedRule m Fs b j At x rows n
+    pub rule_order : (o : OrderLine) → f ≡ Some (rule.Order o) → TriedOrder m Fs o o.wagons At x rows n → TriedRule m Fs f At x rows n
     rule_order o e tried = record {
-      orders = λ c f. let same : o ≡ c = cc in subst (λ z. TriedOrder m Fs z z.wagons At x rows n) same tried;
-      notices = λ c f. let z : ◌≡◌ {A = ℕ} 0 1 = cc in absurd (omega arith);
+      orders = λ c is. let same : o ≡ c = cc in subst (λ z. TriedOrder m Fs z z.wagons At x rows n) same tried;
+      notices = λ c is. let z : ◌≡◌ {A = ℕ} 0 1 = cc in absurd (omega arith);
     }
 
-    pub rule_notice : (c : NoticeLine) → get_or b.rules j rule.Free ≡ rule.Notice c → ((i : ℕ) → i < length Fs → TriedNotice m Fs c x i rows n) → TriedRule m Fs b j At x rows n
+    pub rule_notice : (c : NoticeLine) → f ≡ Some (rule.Notice c) → ((i : ℕ) → i < length Fs → TriedNotice m Fs c x i rows n) → TriedRule m Fs f At x rows n
     rule_notice c e tried = record {
-      orders = λ o f. let z : ◌≡◌ {A = ℕ} 0 1 = cc in absurd (omega arith);
-      notices = λ d f. let same : c ≡ d = cc in subst (λ z. (i : ℕ) → i < length Fs → TriedNotice m Fs z x i rows n) same tried;
+      orders = λ o is. let z : ◌≡◌ {A = ℕ} 0 1 = cc in absurd (omega arith);
+      notices = λ d is. let same : c ≡ d = cc in subst (λ z. (i : ℕ) → i < length Fs → TriedNotice m Fs z x i rows n) same tried;
     }

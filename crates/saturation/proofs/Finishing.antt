@@ -1,5 +1,5 @@
 -- Nothing waits: the table holds exactly the saturated rows.
-use Rattle.std.proofs.Common.{◌≡◌, ℕ, ◌+◌, ◌-◌, ◌<◌, ◌≤◌, min, List, length, get_or, take, set, sym, refl, ap, ◌∙◌, subst, ⊎_elim, arith, get_or-set_other, get_or-set_same}
+use Rattle.std.proofs.Common.{◌≡◌, ℕ, ◌+◌, ◌-◌, ◌<◌, ◌≤◌, min, List, length, get_or, take, Some, None, Option, MatchOption, sym, refl, ap, ap₂, ◌∙◌, subst, ⊎_elim, arith}
 use native.Mathlib.Decide.{dec_lt, ℕ_discrete}
 use Rattle.std.proofs.lemmas.List.{get_or_default, get_or_past, get_or-take, length-take}
 use Rattle.grade.specs.declared.grade.Grade.{Ghosts}
@@ -8,7 +8,7 @@ use Rattle.grade.specs.Lawful.{Lawful}
 use Rattle.grade.specs.Waits.{sooner}
 use Rattle.queue.specs.Queues.{Holds}
 use Rattle.queue.proofs.Members.{single_none, holds_none, queue_none}
-use Rattle.deduction.specs.Counting.{Filled}
+use Rattle.deduction.specs.Counting.{Filled, Outnumber}
 use Rattle.deduction.specs.Derivations.{Derivation}
 use Rattle.deduction.proofs.Bounds.{settled_final, finished_all}
 use Rattle.deduction.proofs.Counting.{filled_outnumber}
@@ -19,7 +19,7 @@ use Rattle.rows.proofs.Graded.{laws_of}
 use Rattle.rowtable.specs.declared.row.TableRow.{TableRow}
 use Rattle.rowtable.specs.Tables.{Held, row_of, blank_row, row_at}
 use Rattle.rowtable.specs.Reasons.{SettledAt}
-use Rattle.saturation.specs.Work.{unranked, WaitsAt, Has, Table, Worked}
+use Rattle.saturation.specs.Work.{unranked, WaitsAt, Has, Table, Worked, Turned}
 use Rattle.saturation.specs.Complete.{Complete}
 use Rattle.saturation.proofs.Turns.{key_once}
 
@@ -112,21 +112,11 @@ module _ {G : Type 0} {m : Ghosts G} {Fs : List ℕ} {ls : List Line} {rows : Li
         omega arith;
   }
 
--- one place more is blank
-pub clear_more : {G : Type 0} (m : Ghosts G) (rows : List (TableRow G)) (k : ℕ) (x : TableRow G) → k < length rows → x ≡ blank_row m.best → ((j : ℕ) → j < k → row_at m rows j ≡ blank_row m.best) → (j : ℕ) → j < k + 1 → row_at m (set rows k x) j ≡ blank_row m.best
-clear_more m rows k x low is before j lt = from (ℕ_discrete j k)
-  where
-    from : Dec (j ≡ k) → row_at m (set rows k x) j ≡ blank_row m.best
-    from (yes here) = ap (row_at m (set rows k x)) here ∙ get_or-set_same rows k x (blank_row m.best) low ∙ is
-    from (no ne) = get_or-set_other rows k j x (blank_row m.best) ne ∙ before j (omega arith)
-
--- and so are all, as there is nothing behind the last place
-pub clear_all : {G : Type 0} (m : Ghosts G) (rows : List (TableRow G)) (n : ℕ) → length rows ≤ n → ((j : ℕ) → j < n → row_at m rows j ≡ blank_row m.best) → (k : ℕ) → row_at m rows k ≡ blank_row m.best
-clear_all m rows n le before k = from (dec_lt k n)
-  where
-    from : Dec (k < n) → row_at m rows k ≡ blank_row m.best
-    from (yes lt) = before k lt
-    from (no late) = get_or_past rows k (blank_row m.best) (omega arith)
+-- all rows are settled, as begin and the turns leave them
+pub filled_ends : {G : Type 0} (m : Ghosts G) (Fs : List ℕ) (ls : List Line) (old mid new : List (TableRow G)) (waited q queue : List (Waiting G)) (n : ℕ) (r : Option (Unit {0})) → length mid ≡ length old → length q ≡ length waited → Turned m Fs ls mid q n new n queue r
+    → MatchOption r (Outnumber (Derivation (row_rules ls)) (min (length old) (length waited))) (λ _. Complete m Fs ls (min (length old) (length waited)) new n)
+filled_ends m Fs ls old mid new waited q queue n None long wide out = subst (Outnumber (Derivation (row_rules ls))) (ap₂ min long wide) out
+filled_ends m Fs ls old mid new waited q queue n (Some _) long wide (worked, long_2, wide_2) = subst (λ places. Complete m Fs ls places new n) (ap₂ min (long_2 ∙ long) (wide_2 ∙ wide)) (finished worked refl)
 
 -- the opened phases as a slice of their table
 pub phases_listed : {ls : List Line} (table : List ℕ) (count : ℕ) → count ≤ length table → Filled (Opened ls) (λ k. get_or table k 0) count → Filled (Opened ls) (λ k. get_or (take count table) k 0) (length (take count table))

@@ -15,6 +15,8 @@ use Rattle.rowtable.specs.declared.row.TableRow.{TableRow}
 use Rattle.rowtable.specs.Tables.{state_of, Exists, row_of, blank_row, row_at}
 use Rattle.rowtable.specs.Reasons.{SettledAt}
 use Rattle.rows.specs.Rows.{row, wagon}
+use Rattle.saturation.specs.declared.work.Work.{Work}
+use Rattle.saturation.specs.AtHand.{SameSlices}
 use Rattle.saturation.specs.Work.{unranked, key, Covers, Placed, Grown, Table, Went, Full, Ends}
 
 -- the queue's calls, where they cannot fail
@@ -353,20 +355,28 @@ module _ {G : Type 0} {m : Ghosts G} {Fs : List ℕ} {ls : List Line} where
       done = f two.grown went.done two.done;
     }
 
-    pub ends_on : (new : List (TableRow G)) (queue : List (Waiting G)) (B C : List (TableRow G) → ℕ → Type 0) (r : Option ℕ) → ((l : ℕ) → Grown m Fs s New' mid k new l → A → B new l → C new l)
-        → Ends m Fs ls s New' mid k q new queue B r → Ends m Fs ls s New old n waited new queue C r
-    ends_on new queue B C None f stuck = full_on stuck
-    ends_on new queue B C (Some l) f two = went_on (f l) two
+    pub ends_on : (new : List (TableRow G)) (l : ℕ) (queue : List (Waiting G)) (B C : List (TableRow G) → ℕ → Type 0) (r : Option (Unit {0})) → (Grown m Fs s New' mid k new l → A → B new l → C new l)
+        → Ends m Fs ls s New' mid k q new l queue B r → Ends m Fs ls s New old n waited new l queue C r
+    ends_on new l queue B C None f stuck = full_on stuck
+    ends_on new l queue B C (Some done) f two = went_on f two
 
 -- a weaker end
-module _ {G : Type 0} (m : Ghosts G) (Fs : List ℕ) (ls : List Line) (s : ℕ) (New : TableRow G → Type 0) (old : List (TableRow G)) (n : ℕ) (waited : List (Waiting G)) (new : List (TableRow G)) (queue : List (Waiting G)) (B C : List (TableRow G) → ℕ → Type 0) where
-  pub ends_so : (r : Option ℕ) → ((l : ℕ) → B new l → C new l) → Ends m Fs ls s New old n waited new queue B r → Ends m Fs ls s New old n waited new queue C r
+module _ {G : Type 0} (m : Ghosts G) (Fs : List ℕ) (ls : List Line) (s : ℕ) (New : TableRow G → Type 0) (old : List (TableRow G)) (n : ℕ) (waited : List (Waiting G)) (new : List (TableRow G)) (l : ℕ) (queue : List (Waiting G)) (B C : List (TableRow G) → ℕ → Type 0) where
+  pub ends_so : (r : Option (Unit {0})) → (B new l → C new l) → Ends m Fs ls s New old n waited new l queue B r → Ends m Fs ls s New old n waited new l queue C r
   ends_so None f stuck = stuck
-  ends_so (Some l) f w = went_so (f l) w
+  ends_so (Some done) f w = went_so f w
+
+-- the same slices, from one to another
+pub slices_then : {G : Type 0} {a b c : Work G} → SameSlices a b → SameSlices b c → SameSlices a c
+slices_then one two = record { rows = two.rows ∙ one.rows; waiting = two.waiting ∙ one.waiting }
 
 -- at the exit of a `?`
 pub at_none : {X : Type 0} (P : Type 0) (Q : X → Type 0) (o : Option X) → o ≡ None → P → MatchOption o P Q
 at_none P Q o e p = subst (λ x. MatchOption x P Q) (sym e) p
+
+-- .. and past it
+pub at_some : {X : Type 0} (P : Type 0) (Q : X → Type 0) (o : Option X) (x : X) → o ≡ Some x → MatchOption o P Q → Q x
+at_some P Q o x e h = subst (λ o. MatchOption o P Q) e h
 
 -- what holds below i, and at i, holds below i + 1
 pub below_next : (P : ℕ → Type 0) (i : ℕ) → ((k : ℕ) → k < i → P k) → P i → (k : ℕ) → k < i + 1 → P k

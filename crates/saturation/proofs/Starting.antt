@@ -1,5 +1,5 @@
 -- At the start exactly what rests on no other row waits.
-use Rattle.std.proofs.Common.{◌≡◌, ℕ, ◌<◌, List, [], length, Some, None, Option, sym, refl, ap, ◌∙◌, subst, subst₂, ⊎_elim, arith}
+use Rattle.std.proofs.Common.{◌≡◌, ℕ, ◌<◌, List, [], length, get_or, Some, None, Option, sym, refl, ap, ◌∙◌, subst, subst₂, ⊎_elim, arith}
 use Rattle.std.proofs.lemmas.List.{length-take, get_or-take}
 use Rattle.grade.specs.declared.grade.Grade.{Ghosts}
 use Rattle.grade.specs.declared.waiting.Waiting.{Waiting}
@@ -31,7 +31,7 @@ use Rattle.saturation.proofs.Turns.{key_once, reasoned_derived}
 -- the rows of all lines, and of all orders that lay nothing down, are there
 abbrev pub Begun : {G : Type 0} (m : Ghosts G) (Fs : List ℕ) (b : Book) → List (TableRow G) → ℕ → Type 0
 Begun m Fs b rows n =
-    ((k : ℕ) → k < b.linking → LinkBegun m Fs b k rows n) × ((k : ℕ) → k < b.watching → (i : ℕ) → i < length Fs → WatchBegun m Fs b k i rows n) × ((k : ℕ) → k < 64 → RuleBegun m Fs b k rows n)
+    ((k : ℕ) → k < b.linking → LinkBegun m Fs b k rows n) × ((k : ℕ) → k < b.watching → (i : ℕ) → i < length Fs → WatchBegun m Fs b k i rows n) × ((k : ℕ) → k < 64 → RuleBegun m Fs (get_or b.rules k None) rows n)
 
 module _ {G : Type 0} (m : Ghosts G) (Fs : List ℕ) (b : Book) where
   begins_derived : (r : TableRow G) → Begins m Fs (lines b) r → Derived (row_system m (lines b)) (row_of Fs r) r.grade
@@ -99,6 +99,11 @@ module _ {G : Type 0} (m : Ghosts G) (Fs : List ℕ) (b : Book) where
       invariant = start_holds (laws_of lawful) (λ i g h. let low = h.2.ranked in omega arith) (record { axioms = axiom_of; all = all_axioms m gives });
     }
 
-  pub begin_ends : (old : List (TableRow G)) (waited : List (Waiting G)) (new : List (TableRow G)) (queue : List (Waiting G)) (r : Option ℕ) → Ends m Fs (lines b) 0 (Begins m Fs (lines b)) old 0 waited new queue (Begun m Fs b) r → Turned m Fs (lines b) old waited 0 new queue r
-  begin_ends old waited new queue None full = start_full full
-  begin_ends old waited new queue (Some l) went = (start_worked went, went.rows_long, went.queue_long)
+  pub begin_ends : (old : List (TableRow G)) (waited : List (Waiting G)) (new : List (TableRow G)) (l : ℕ) (queue : List (Waiting G)) (r : Option (Unit {0})) → (s n : ℕ) → s ≡ 0 → n ≡ 0
+      → Ends m Fs (lines b) s (Begins m Fs (lines b)) old n waited new l queue (Begun m Fs b) r → Turned m Fs (lines b) old waited s new l queue r
+  begin_ends old waited new l queue r s n none_settled none_found =
+      subst₂ (λ s n. Ends m Fs (lines b) s (Begins m Fs (lines b)) old n waited new l queue (Begun m Fs b) r → Turned m Fs (lines b) old waited s new l queue r) (sym none_settled) (sym none_found) (from r)
+    where
+      from : (r : Option (Unit {0})) → Ends m Fs (lines b) 0 (Begins m Fs (lines b)) old 0 waited new l queue (Begun m Fs b) r → Turned m Fs (lines b) old waited 0 new l queue r
+      from None full = start_full full
+      from (Some done) went = (start_worked went, went.rows_long, went.queue_long)

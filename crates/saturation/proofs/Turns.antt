@@ -172,7 +172,7 @@ module _ {G : Type 0} {m : Ghosts G} {Fs : List ℕ} (b : Book) {old mid : List 
         nowhere = λ k h e. full.nowhere k h (key_once Fs t.phases.different.apart m (row_at m full.rows k) full.row (t.placed k h) full.new.placed e);
       })
 
-  module _ {new : List (TableRow G)} {l : ℕ} {rest : List (Waiting G)} (went : Went m Fs (lines b) (s + 1) (Brings m Fs (lines b) mid (s + 1) n x) mid n middle new l rest ((k : ℕ) → k < 64 → TriedRule m Fs b k (SettledAt m mid n (s + 1)) x new l)) where
+  module _ {new : List (TableRow G)} {l : ℕ} {rest : List (Waiting G)} (went : Went m Fs (lines b) (s + 1) (Brings m Fs (lines b) mid (s + 1) n x) mid n middle new l rest ((k : ℕ) → k < 64 → TriedRule m Fs (get_or b.rules k None) (SettledAt m mid n (s + 1)) x new l)) where
     grown : Grown m Fs (s + 1) (Brings m Fs (lines b) mid (s + 1) n x) mid n new l
     grown = went.grown
 
@@ -365,7 +365,7 @@ module _ {G : Type 0} {m : Ghosts G} {Fs : List ℕ} (b : Book) {old mid : List 
     }
 
   -- a turn, as its two calls leave it
-  pub turn_ends : (new : List (TableRow G)) (after : List (Waiting G)) (r : Option ℕ)
-      → Ends m Fs (lines b) (s + 1) (Brings m Fs (lines b) mid (s + 1) n x) mid n middle new after (λ rows l. (k : ℕ) → k < 64 → TriedRule m Fs b k (SettledAt m mid n (s + 1)) x rows l) r → Turned m Fs (lines b) old queue (s + 1) new after r
-  turn_ends new after None full = subst (Outnumber (Derivation (row_rules (lines b)))) (ap₂ min st.rows_long st.queue_long) (turn_full full)
-  turn_ends new after (Some l) went = (turn_keeps went, went.rows_long ∙ st.rows_long, went.queue_long ∙ st.queue_long)
+  pub turn_ends : (new : List (TableRow G)) (l : ℕ) (after : List (Waiting G)) (r : Option (Unit {0}))
+      → Ends m Fs (lines b) (s + 1) (Brings m Fs (lines b) mid (s + 1) n x) mid n middle new l after (λ rows l. (k : ℕ) → k < 64 → TriedRule m Fs (get_or b.rules k None) (SettledAt m mid n (s + 1)) x rows l) r → Turned m Fs (lines b) old queue (s + 1) new l after r
+  turn_ends new l after None full = subst (Outnumber (Derivation (row_rules (lines b)))) (ap₂ min st.rows_long st.queue_long) (turn_full full)
+  turn_ends new l after (Some done) went = (turn_keeps went, went.rows_long ∙ st.rows_long, went.queue_long ∙ st.queue_long)

@@ -1,10 +1,11 @@
 -- What waits at the start: the rows of lines, and of orders that lay nothing down.
-use Rattle.std.specs.Prelude.{◌≡◌, ℕ, ◌<◌, List, [], length, slice_index, slice_index_or}
+use Rattle.std.specs.Prelude.{◌≡◌, ℕ, ◌<◌, List, [], length, slice_index, slice_index_or, Some, Option}
 use Rattle.grade.specs.declared.grade.Grade.{Ghosts}
+use Rattle.text.specs.declared.line.Rule.{Rule}
+use Rattle.text.specs.declared.line.Rule.TheVariants as rule
 use Rattle.text.specs.declared.line.OrderLine.{OrderLine}
 use Rattle.model.specs.Phases.{InForce}
 use Rattle.model.specs.Moves.{laid_down}
-use Rattle.book.specs.declared.rule.Rule.TheVariants as rule
 use Rattle.book.specs.declared.tables.Book.{Book}
 use Rattle.book.specs.Tables.{blank_watch, blank_link}
 use Rattle.rows.specs.Rows.{head, link_row, watch_row, order_row}
@@ -24,6 +25,6 @@ module _ {G : Type 0} (m : Ghosts G) (Fs : List ℕ) where
   abbrev pub OrderBegun : OrderLine → ℕ → List (TableRow G) → ℕ → Type 0
   OrderBegun o i rows n = laid_down o ≡ [] → InForce (slice_index Fs i) o.number.value → Covers m Fs rows n (order_row o (slice_index Fs i) (head o.to.value (slice_index Fs i))) (m.priced o.toll)
 
-  -- those of the rule at place k are there, if it is an order
-  abbrev pub RuleBegun : Book → ℕ → List (TableRow G) → ℕ → Type 0
-  RuleBegun b k rows n = (o : OrderLine) → slice_index_or b.rules k rule.Free ≡ rule.Order o → (i : ℕ) → i < length Fs → OrderBegun o i rows n
+  -- those of the rule are there, if it is an order
+  abbrev pub RuleBegun : Option Rule → List (TableRow G) → ℕ → Type 0
+  RuleBegun f rows n = (o : OrderLine) → f ≡ Some (rule.Order o) → (i : ℕ) → i < length Fs → OrderBegun o i rows n

@@ -1,5 +1,5 @@
 -- The row table while rows are settled: rows stay at their places, and each that is settled has its rank.
-use Rattle.std.specs.Prelude.{◌≡◌, ℕ, ◌+◌, ◌-◌, ◌<◌, ◌≤◌, min, T, ◌⊎◌, ◌↔◌, List, [], length, get_or, Option, MatchOption, ◌≢◌, slice_index, slice_index_or}
+use Rattle.std.specs.Prelude.{◌≡◌, ℕ, ◌+◌, ◌-◌, ◌<◌, ◌≤◌, min, T, ◌⊎◌, ◌↔◌, List, [], length, get_or, Some, Option, MatchOption, ◌≢◌, slice_index}
 use Rattle.grade.specs.declared.grade.Grade.{Ghosts}
 use Rattle.grade.specs.declared.waiting.Waiting.{Waiting}
 use Rattle.grade.specs.Lawful.{Lawful}
@@ -10,14 +10,14 @@ use Rattle.deduction.specs.Derivations.{Derivation}
 use Rattle.deduction.specs.Lists.{In}
 use Rattle.deduction.specs.Saturation.{Invariant}
 use Rattle.text.specs.declared.line.Line.{Line}
+use Rattle.text.specs.declared.line.Rule.{Rule}
+use Rattle.text.specs.declared.line.Rule.TheVariants as rule
 use Rattle.text.specs.declared.line.OrderLine.{OrderLine}
 use Rattle.text.specs.declared.line.NoticeLine.{NoticeLine}
 use Rattle.text.specs.declared.line.Wagons.{Wagons}
 use Rattle.text.specs.declared.line.Wagons.TheVariants.{Zero, One, Two}
 use Rattle.model.specs.Phases.{InForce, Allows, after, Opened}
-use Rattle.book.specs.declared.rule.Rule.TheVariants as rule
-use Rattle.book.specs.declared.tables.Book.{Book}
-use Rattle.rows.specs.Rows.{Row, wagon, Rule, premises, order_row, notice_row, row_rules}
+use Rattle.rows.specs.Rows.{Row, wagon, Rule as RowRule, premises, order_row, notice_row, row_rules}
 use Rattle.rows.specs.Ways.{row_system}
 use Rattle.rowtable.specs.declared.row.TableState.{TableState}
 use Rattle.rowtable.specs.declared.row.TableState.TheVariants.{Head}
@@ -104,7 +104,7 @@ module _ {G : Type 0} (m : Ghosts G) where
         pub holds : (e : Waiting G) → Holds queue (n - s) e ↔ ((e.row < n) × ((row_at m rows e.row).rank ≡ unranked) × (e.grade ≡ (row_at m rows e.row).grade))
 
       -- a row to wait, given by a rule that is Fit from rows that are At their places
-      pub record Given (At : ℕ → TableRow G → Type 0) (Fit : Rule ls → Type 0) (r : TableRow G) : Type 0 where
+      pub record Given (At : ℕ → TableRow G → Type 0) (Fit : RowRule ls → Type 0) (r : TableRow G) : Type 0 where
         pub reasoned : Reasoned m ls Fs At r
         pub fit : Fit reasoned.rule
         pub waits : r.rank ≡ unranked
@@ -129,8 +129,8 @@ module _ {G : Type 0} (m : Ghosts G) where
         pub nowhere : (k : ℕ) → k < places → key (row_at m rows k) ≢ key row
 
       -- how bringing New rows in ends: so that C holds of the rows, or for want of a place in the table or the queue
-      abbrev pub Ends : (s : ℕ) (New : TableRow G → Type 0) (old : List (TableRow G)) (n : ℕ) (waited : List (Waiting G)) (new : List (TableRow G)) (queue : List (Waiting G)) (C : List (TableRow G) → ℕ → Type 0) → Option ℕ → Type 0
-      Ends s New old n waited new queue C r = MatchOption r (Full s New old n (min (length old) (length waited))) (λ l. Went s New old n waited new l queue (C new l))
+      abbrev pub Ends : (s : ℕ) (New : TableRow G → Type 0) (old : List (TableRow G)) (n : ℕ) (waited : List (Waiting G)) (new : List (TableRow G)) (l : ℕ) (queue : List (Waiting G)) (C : List (TableRow G) → ℕ → Type 0) → Option (Unit {0}) → Type 0
+      Ends s New old n waited new l queue C r = MatchOption r (Full s New old n (min (length old) (length waited))) (λ _. Went s New old n waited new l queue (C new l))
 
       -- what is settled is no worse than the grade g
       abbrev pub Later : List (TableRow G) → (s n : ℕ) → G → Type 0
@@ -196,10 +196,10 @@ module _ {G : Type 0} (m : Ghosts G) where
     abbrev pub TriedNotice : NoticeLine → TableRow G → ℕ → List (TableRow G) → ℕ → Type 0
     TriedNotice c x i rows n = Noticed c x i → Covers rows n (notice_row c (slice_index Fs i) (wagon x.wagon) (state_of Fs x.to)) (m.join (m.priced c.toll) x.grade)
 
-    -- the rule at place k of the book was tried on x
-    pub record TriedRule (b : Book) (k : ℕ) (At : ℕ → TableRow G → Type 0) (x : TableRow G) (rows : List (TableRow G)) (n : ℕ) : Type 0 where
-      pub orders : (o : OrderLine) → slice_index_or b.rules k rule.Free ≡ rule.Order o → TriedOrder o o.wagons At x rows n
-      pub notices : (c : NoticeLine) → slice_index_or b.rules k rule.Free ≡ rule.Notice c → (i : ℕ) → i < length Fs → TriedNotice c x i rows n
+    -- the rule, if there is one, was tried on x
+    pub record TriedRule (f : Option Rule) (At : ℕ → TableRow G → Type 0) (x : TableRow G) (rows : List (TableRow G)) (n : ℕ) : Type 0 where
+      pub orders : (o : OrderLine) → f ≡ Some (rule.Order o) → TriedOrder o o.wagons At x rows n
+      pub notices : (c : NoticeLine) → f ≡ Some (rule.Notice c) → (i : ℕ) → i < length Fs → TriedNotice c x i rows n
 
     -- Between two settlings: every row has a right reason among rows settled before it, rows were settled best grade first, and best-first saturation's invariant holds.
     pub record Worked (ls : List Line) (rows : List (TableRow G)) (s n : ℕ) (queue : List (Waiting G)) : Type 0 where
@@ -220,13 +220,7 @@ module _ {G : Type 0} (m : Ghosts G) where
       pub rows_long : length new ≡ length old
       pub queue_long : length queue ≡ length waited
 
-    -- how a turn ends: one row more is settled, or the saturated rows outnumber the places
-    abbrev pub Turned : (ls : List Line) (old : List (TableRow G)) (waited : List (Waiting G)) (s : ℕ) (new : List (TableRow G)) (queue : List (Waiting G)) → Option ℕ → Type 0
-    Turned ls old waited s new queue r =
-        MatchOption r (Outnumber (Derivation (row_rules ls)) (min (length old) (length waited))) (λ n. Worked ls new s n queue × (length new ≡ length old) × (length queue ≡ length waited))
-
-    -- how settling so many more rows ends: so many are settled, or all; or the saturated rows outnumber the places
-    abbrev pub Proceeded : (ls : List Line) (old : List (TableRow G)) (waited : List (Waiting G)) (s count : ℕ) (new : List (TableRow G)) (queue : List (Waiting G)) → Option (ℕ × ℕ) → Type 0
-    Proceeded ls old waited s count new queue r =
-        MatchOption r (Outnumber (Derivation (row_rules ls)) (min (length old) (length waited)))
-        (λ q. Worked ls new q.0 q.1 queue × (length new ≡ length old) × (length queue ≡ length waited) × ((q.0 ≡ s + count) ⊎ ((q.0 ≡ q.1) × (q.0 ≤ s + count))))
+    -- how a turn ends: s rows are settled, or the saturated rows outnumber the places
+    abbrev pub Turned : (ls : List Line) (old : List (TableRow G)) (waited : List (Waiting G)) (s : ℕ) (new : List (TableRow G)) (n : ℕ) (queue : List (Waiting G)) → Option (Unit {0}) → Type 0
+    Turned ls old waited s new n queue r =
+        MatchOption r (Outnumber (Derivation (row_rules ls)) (min (length old) (length waited))) (λ _. Worked ls new s n queue × (length new ≡ length old) × (length queue ≡ length waited))

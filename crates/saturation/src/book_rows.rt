@@ -28,14 +28,7 @@ pub fn saturate_book<G: Grade>(
         (λ done. SaturatedTable G.Grade.own (lines book.now) (used done.phases) rows.new done.rows)
         (λ _. Unit {0}) }
 {
-    match open_phases(book) {
-        Err(refusal) => Err(SaturationRefusal::Phases(refusal)),
-        Ok(phases) => match saturate(book, &phases.table[..phases.count], rows, waiting) {
-            Some(count) => Ok(Saturation {
-                phases,
-                rows: count,
-            }),
-            None => Err(SaturationRefusal::TooManyRows),
-        },
-    }
+    let phases = open_phases(book)?;
+    let rows = saturate(book, &phases, rows, waiting).ok_or(SaturationRefusal::TooManyRows)?;
+    Ok(Saturation { phases, rows })
 }

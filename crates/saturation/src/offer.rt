@@ -1,14 +1,14 @@
 // Letting a row wait.
-ghost use Rattle.std.specs.Prelude.{◌≡◌, ℕ, ◌<◌, ◌≤◌, true, false, T, ◌⊎◌, length, ◌≢◌};
+ghost use Rattle.std.specs.Prelude.{◌≡◌, ℕ, ◌<◌, ◌≤◌, true, false, T, ◌⊎◌, length, ◌≢◌, MatchOption};
 ghost use Rattle.grade.specs.Waits.{sooner};
 ghost use Rattle.queue.specs.Queues.{Holds, Replaced};
 ghost use Rattle.rowtable.specs.Tables.{row_of, row_at};
-ghost use Rattle.book.specs.Lines.{lines};
-ghost use Rattle.saturation.specs.Work.{key, unranked, Covers, Placed, Table, Later, Went, Ends};
+ghost use Rattle.saturation.specs.Work.{key, unranked, Covers, Placed};
+ghost use Rattle.saturation.specs.AtHand.{SameSlices, TableOf, LaterOf, WentOf, EndsOf};
 
 use crate::keys::find;
-use crate::progress::Progress;
-use book::tables::Book;
+use crate::setting::Setting;
+use crate::work::Work;
 use grade::grade::Grade;
 use grade::order::TotalOrder;
 use grade::waiting::Waiting;
@@ -34,93 +34,87 @@ fn requeue<G: Grade>(waiting: &mut [Waiting<G>], count: usize, old: Waiting<G>, 
     }
 }
 
-// Puts `row` for the one at place `i`, which has its key, if that one waits with a worse grade.
-fn improve<G: Grade>(
-    book: &Book,
-    phases: &[u64],
-    rows: &mut [TableRow<G>],
-    waiting: &mut [Waiting<G>],
-    progress: Progress,
-    i: usize,
-    row: TableRow<G>,
-)
-    requires table { Table G.Grade.own phases.now (lines book.now) rows.old progress.settled progress.found waiting.old }
-    requires row { (row.rank ≡ unranked) × Placed G.Grade.own phases.now row }
-    requires later { Later G.Grade.own phases.now (lines book.now) rows.old progress.settled progress.found row.grade }
-    requires same { (i < progress.found) × (key (row_at G.Grade.own rows.old i) ≡ key row) }
-    ensures { Went G.Grade.own phases.now (lines book.now) progress.settled (λ x. x ≡ row) rows.old progress.found waiting.old rows.new progress.found waiting.new
-        (Covers G.Grade.own phases.now rows.new progress.found (row_of phases.now row) row.grade) }
-{
-    G::agrees();
-    let old = rows[i];
-    if !keeps(&old, progress.settled, &row.grade) {
-        requeue(
-            waiting,
-            progress.found - progress.settled,
-            Waiting {
-                grade: old.grade,
-                row: i,
-            },
+impl<'a, G: Grade> Work<'a, G> {
+    // The place of the row with the key of `wanted`.
+    fn find(&self, wanted: &TableRow<G>) -> Option<usize>
+        requires { self.now.found ≤ length self.now.rows.now }
+        ensures { MatchOption result
+            ((k : ℕ) → k < self.now.found → key (row_at G.Grade.own self.now.rows.now k) ≢ key wanted.now)
+            (λ i. (i < self.now.found) × (key (row_at G.Grade.own self.now.rows.now i) ≡ key wanted.now)) }
+    {
+        find(&self.rows[..self.found], wanted)
+    }
+
+    // Puts `row` for the one at place `i`, which has its key, if that one waits with a worse grade.
+    fn improve(&mut self, setting: &Setting, i: usize, row: TableRow<G>)
+        requires table { TableOf G.Grade.own setting.now self.old }
+        requires row { (row.rank ≡ unranked) × Placed G.Grade.own setting.now.phases.now row }
+        requires later { LaterOf G.Grade.own setting.now self.old row.grade }
+        requires same { (i < self.old.found) × (key (row_at G.Grade.own self.old.rows.now i) ≡ key row) }
+        ensures slices { SameSlices self.old self.new }
+        ensures went { WentOf G.Grade.own setting.now (λ x. x ≡ row) self.old self.new
+            (Covers G.Grade.own setting.now.phases.now self.new.rows.now self.new.found (row_of setting.now.phases.now row) row.grade) }
+    {
+        G::agrees();
+        let old = self.rows[i];
+        if !keeps(&old, setting.settled, &row.grade) {
+            requeue(
+                self.waiting,
+                self.found - setting.settled,
+                Waiting {
+                    grade: old.grade,
+                    row: i,
+                },
+                Waiting {
+                    grade: row.grade,
+                    row: i,
+                },
+            );
+            self.rows[i] = row;
+        }
+    }
+
+    // Puts `row`, whose key no row has, behind the others, if there is a place.
+    fn append(&mut self, setting: &Setting, row: TableRow<G>) -> Option<()>
+        requires table { TableOf G.Grade.own setting.now self.old }
+        requires row { (row.rank ≡ unranked) × Placed G.Grade.own setting.now.phases.now row }
+        requires nowhere { (k : ℕ) → k < self.old.found → key (row_at G.Grade.own self.old.rows.now k) ≢ key row }
+        ensures slices { SameSlices self.old self.new }
+        ensures ends { EndsOf G.Grade.own setting.now (λ x. x ≡ row) self.old self.new
+            (λ rows n. Covers G.Grade.own setting.now.phases.now rows n (row_of setting.now.phases.now row) row.grade) result }
+    {
+        G::agrees();
+        if self.found >= self.rows.len() || self.found >= self.waiting.len() {
+            return None;
+        }
+        queue::put(
+            self.waiting,
+            self.found - setting.settled,
             Waiting {
                 grade: row.grade,
-                row: i,
+                row: self.found,
             },
-        );
-        rows[i] = row;
+        )?;
+        self.rows[self.found] = row;
+        self.found += 1;
+        Some(())
     }
-}
 
-// Puts `row`, whose key no row has, behind the others, if there is a place.
-fn append<G: Grade>(
-    book: &Book,
-    phases: &[u64],
-    rows: &mut [TableRow<G>],
-    waiting: &mut [Waiting<G>],
-    progress: Progress,
-    row: TableRow<G>,
-) -> Option<usize>
-    requires table { Table G.Grade.own phases.now (lines book.now) rows.old progress.settled progress.found waiting.old }
-    requires row { (row.rank ≡ unranked) × Placed G.Grade.own phases.now row }
-    requires nowhere { (k : ℕ) → k < progress.found → key (row_at G.Grade.own rows.old k) ≢ key row }
-    ensures { Ends G.Grade.own phases.now (lines book.now) progress.settled (λ x. x ≡ row) rows.old progress.found waiting.old rows.new waiting.new
-        (λ now-rows n. Covers G.Grade.own phases.now now-rows n (row_of phases.now row) row.grade) result }
-{
-    G::agrees();
-    if progress.found >= rows.len() || progress.found >= waiting.len() {
-        return None;
+    // Lets `row` wait, unless a row with its key is settled, or waits with a grade no worse. None where there is no place for it.
+    pub(crate) fn offer(&mut self, setting: &Setting, row: TableRow<G>) -> Option<()>
+        requires table { TableOf G.Grade.own setting.now self.old }
+        requires row { (row.rank ≡ unranked) × Placed G.Grade.own setting.now.phases.now row }
+        requires later { LaterOf G.Grade.own setting.now self.old row.grade }
+        ensures slices { SameSlices self.old self.new }
+        ensures ends { EndsOf G.Grade.own setting.now (λ x. x ≡ row) self.old self.new
+            (λ rows n. Covers G.Grade.own setting.now.phases.now rows n (row_of setting.now.phases.now row) row.grade) result }
+    {
+        match self.find(&row) {
+            Some(i) => {
+                self.improve(setting, i, row);
+                Some(())
+            }
+            None => self.append(setting, row),
+        }
     }
-    queue::put(
-        waiting,
-        progress.found - progress.settled,
-        Waiting {
-            grade: row.grade,
-            row: progress.found,
-        },
-    )?;
-    rows[progress.found] = row;
-    Some(progress.found + 1)
-}
-
-// Lets `row` wait, unless a row with its key is settled, or waits with a grade no worse. Answers how many rows there are then; None
-// where there is no place for it.
-pub(crate) fn offer<G: Grade>(
-    book: &Book,
-    phases: &[u64],
-    rows: &mut [TableRow<G>],
-    waiting: &mut [Waiting<G>],
-    progress: Progress,
-    row: TableRow<G>,
-) -> Option<usize>
-    requires table { Table G.Grade.own phases.now (lines book.now) rows.old progress.settled progress.found waiting.old }
-    requires row { (row.rank ≡ unranked) × Placed G.Grade.own phases.now row }
-    requires later { Later G.Grade.own phases.now (lines book.now) rows.old progress.settled progress.found row.grade }
-    ensures { Ends G.Grade.own phases.now (lines book.now) progress.settled (λ x. x ≡ row) rows.old progress.found waiting.old rows.new waiting.new
-        (λ now-rows n. Covers G.Grade.own phases.now now-rows n (row_of phases.now row) row.grade) result }
-{
-    let i = find(rows, progress.found, &row);
-    if i < progress.found {
-        improve(book, phases, rows, waiting, progress, i, row);
-        return Some(progress.found);
-    }
-    append(book, phases, rows, waiting, progress, row)
 }

@@ -3,11 +3,15 @@ ghost use Rattle.std.specs.Prelude.{◌≡◌, ℕ, ◌<◌, length, Decides, Ma
 ghost use Rattle.rowtable.specs.declared.row.TableState.TheVariants.{Node, Head};
 ghost use Rattle.saturation.specs.Work.{row_by_order, row_by_notice, row_by_line, Starts, Goes, Noticed};
 
-use crate::keys::same_state;
+use crate::premise::Premise;
 use grade::grade::Grade;
-use moves::phase::{after_notice, allowed, in_force};
+use moves::phase::{after_notice, allowed};
 use rowtable::row::{Reason, TableRow, TableState};
 use text::line::{LinkLine, NoticeLine, OrderLine, WatchLine};
+use text::phase::contains;
+
+// The rank of a row that waits. It is a number and no Option: ranks are compared as plain numbers, and a blank row has 0 everywhere.
+const UNRANKED: usize = usize::MAX;
 
 pub(crate) fn order_row<G: Grade>(
     order: &OrderLine,
@@ -24,7 +28,7 @@ pub(crate) fn order_row<G: Grade>(
         wagon: order.wagon.get() as u8,
         to,
         grade: G::of_toll(order.toll).joined(parts),
-        rank: usize::MAX,
+        rank: UNRANKED,
         reason: Reason::Order(order.number.get() as u8, a, b),
     }
 }
@@ -32,19 +36,18 @@ pub(crate) fn order_row<G: Grade>(
 pub(crate) fn notice_row<G: Grade>(
     notice: &NoticeLine,
     place: usize,
-    after: &TableRow<G>,
-    a: usize,
+    after: &Premise<G>,
 ) -> TableRow<G>
     requires { place < 256 }
-    ensures { result ≡ row_by_notice G.Grade.own notice.now place after.now a }
+    ensures { result ≡ row_by_notice G.Grade.own notice.now place after.now.row after.now.place }
 {
     TableRow {
         from: TableState::Head(notice.mode.get() as u8, place as u8),
-        wagon: after.wagon,
-        to: after.to,
-        grade: G::of_toll(notice.toll).joined(after.grade),
-        rank: usize::MAX,
-        reason: Reason::Notice(notice.number.get() as u8, a),
+        wagon: after.row.wagon,
+        to: after.row.to,
+        grade: G::of_toll(notice.toll).joined(after.row.grade),
+        rank: UNRANKED,
+        reason: Reason::Notice(notice.number.get() as u8, after.place),
     }
 }
 
@@ -56,7 +59,7 @@ fn line_row<G: Grade>(from: TableState, wagon: u8, to: TableState) -> TableRow<G
         wagon,
         to,
         grade: G::best_grade(),
-        rank: usize::MAX,
+        rank: UNRANKED,
         reason: Reason::Line,
     }
 }
@@ -106,9 +109,9 @@ pub(crate) fn starts<G: Grade>(
     match row.from {
         TableState::Node(_) => None,
         TableState::Head(mode, place) => {
-            let i = place as usize;
-            let after = mode as u16 == order.to.get() && row.wagon as u16 == wagon;
-            if after && i < phases.len() && in_force(phases[i], order.number) {
+            let i = usize::from(place);
+            let after = u16::from(mode) == order.to.get() && u16::from(row.wagon) == wagon;
+            if after && i < phases.len() && contains(phases[i], order.number) {
                 Some(place)
             } else {
                 None
@@ -121,7 +124,7 @@ pub(crate) fn starts<G: Grade>(
 pub(crate) fn goes<G: Grade>(wagon: u16, row: &TableRow<G>, next: &TableRow<G>) -> bool
     ensures { Decides result (Goes wagon row.now next.now) }
 {
-    next.wagon as u16 == wagon && same_state(next.from, row.to)
+    u16::from(next.wagon) == wagon && next.from == row.to
 }
 
 // Whether the row starts at the head after the notice, where it is carried out in the phase at this place.
@@ -137,9 +140,9 @@ pub(crate) fn noticed<G: Grade>(
     match row.from {
         TableState::Node(_) => false,
         TableState::Head(mode, then) => {
-            let j = then as usize;
+            let j = usize::from(then);
             let phase = phases[place];
-            let after = mode as u16 == notice.to.get()
+            let after = u16::from(mode) == notice.to.get()
                 && j < phases.len()
                 && allowed(notice, phase);
             after && phases[j] == after_notice(phase, notice)

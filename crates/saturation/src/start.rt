@@ -1,232 +1,97 @@
 // What waits at the start: the rows of link lines, of watch lines in every opened phase, and of orders that lay nothing down.
-ghost use Rattle.std.specs.Prelude.{◌≡◌, ℕ, ◌<◌, ◌≤◌, [], length};
+ghost use Rattle.std.specs.Prelude.{◌≡◌, ℕ, ◌<◌, length, slice_index_or, None};
 ghost use Rattle.text.specs.declared.line.Line.TheVariants as line;
 ghost use Rattle.model.specs.Phases.{Stands};
-ghost use Rattle.model.specs.Moves.{laid_down};
 ghost use Rattle.book.specs.Lines.{lines};
-ghost use Rattle.saturation.specs.Work.{Table, Ends, Begins, Turned};
 ghost use Rattle.saturation.specs.Start.{LinkBegun, WatchBegun, OrderBegun, RuleBegun};
+ghost use Rattle.saturation.specs.AtHand.{SameSlices, TableOf, BeginsOf, TurnedOf};
 
-use crate::offer::offer;
-use crate::progress::Progress;
 use crate::rules::{link_row, lone_row, watch_row};
-use book::rule::Rule;
-use book::tables::Book;
+use crate::setting::Setting;
+use crate::work::Work;
 use grade::grade::Grade;
-use grade::waiting::Waiting;
-use moves::phase::in_force;
-use rowtable::row::TableRow;
-use text::line::{OrderLine, Wagons};
+use text::line::{OrderLine, Rule, Wagons};
+use text::phase::contains;
 
-// Lets the row of a link line wait.
-fn begin_link<G: Grade>(
-    book: &Book,
-    phases: &[u64],
-    rows: &mut [TableRow<G>],
-    waiting: &mut [Waiting<G>],
-    found: usize,
-    k: usize,
-) -> Option<usize>
-    requires table { Table G.Grade.own phases.now (lines book.now) rows.old 0 found waiting.old }
-    requires few { length phases.now ≤ 256 }
-    requires k { k < book.now.linking }
-    ensures { Ends G.Grade.own phases.now (lines book.now) 0 (Begins G.Grade.own phases.now (lines book.now)) rows.old found waiting.old rows.new waiting.new
-        (LinkBegun G.Grade.own phases.now book.now k) result }
-{
-    let link = book.links[k];
-    let row = link_row(&link);
-    let progress = Progress { settled: 0, found };
-    offer(book, phases, rows, waiting, progress, row)
-}
-
-// Lets the row of a watch line wait, in the phase at this place.
-fn begin_watch<G: Grade>(
-    book: &Book,
-    phases: &[u64],
-    rows: &mut [TableRow<G>],
-    waiting: &mut [Waiting<G>],
-    found: usize,
-    k: usize,
-    place: usize,
-) -> Option<usize>
-    requires table { Table G.Grade.own phases.now (lines book.now) rows.old 0 found waiting.old }
-    requires few { length phases.now ≤ 256 }
-    requires k { (k < book.now.watching) × (place < length phases.now) }
-    ensures { Ends G.Grade.own phases.now (lines book.now) 0 (Begins G.Grade.own phases.now (lines book.now)) rows.old found waiting.old rows.new waiting.new
-        (WatchBegun G.Grade.own phases.now book.now k place) result }
-{
-    let watch = book.watches[k];
-    let row = watch_row(&watch, place);
-    let progress = Progress { settled: 0, found };
-    offer(book, phases, rows, waiting, progress, row)
-}
-
-// Lets the row of an order that lays nothing down wait, if the order is in force in the phase at this place.
-fn begin_order<G: Grade>(
-    book: &Book,
-    phases: &[u64],
-    rows: &mut [TableRow<G>],
-    waiting: &mut [Waiting<G>],
-    found: usize,
-    order: &OrderLine,
-    place: usize,
-) -> Option<usize>
-    requires table { Table G.Grade.own phases.now (lines book.now) rows.old 0 found waiting.old }
-    requires few { length phases.now ≤ 256 }
-    requires order { Stands (lines book.now) (line.Order order.now) × (laid_down order.now ≡ []) }
-    requires place { place < length phases.now }
-    ensures { Ends G.Grade.own phases.now (lines book.now) 0 (Begins G.Grade.own phases.now (lines book.now)) rows.old found waiting.old rows.new waiting.new
-        (OrderBegun G.Grade.own phases.now order.now place) result }
-{
-    if !in_force(phases[place], order.number) {
-        return Some(found);
+impl<'a, G: Grade> Work<'a, G> {
+    // Lets the rows of all link lines wait.
+    fn begin_links(&mut self, setting: &Setting) -> Option<()>
+        requires table { TableOf G.Grade.own setting.now self.old }
+        requires start { setting.now.settled ≡ 0 }
+        ensures slices { SameSlices self.old self.new }
+        ensures ends { BeginsOf G.Grade.own setting.now self.old self.new
+            (λ later n. ((k : ℕ) → k < setting.now.book.now.linking → LinkBegun G.Grade.own setting.now.phases.now setting.now.book.now k later n)) result }
+    {
+        for link in setting.book.links_in_use() {
+            self.offer(setting, link_row(link))?;
+        }
+        Some(())
     }
-    let row = lone_row(order, place);
-    let progress = Progress { settled: 0, found };
-    offer(book, phases, rows, waiting, progress, row)
-}
 
-// Lets the rows of all link lines wait.
-fn begin_links<G: Grade>(
-    book: &Book,
-    phases: &[u64],
-    rows: &mut [TableRow<G>],
-    waiting: &mut [Waiting<G>],
-    found: usize,
-) -> Option<usize>
-    requires table { Table G.Grade.own phases.now (lines book.now) rows.old 0 found waiting.old }
-    requires few { length phases.now ≤ 256 }
-    ensures { Ends G.Grade.own phases.now (lines book.now) 0 (Begins G.Grade.own phases.now (lines book.now)) rows.old found waiting.old rows.new waiting.new
-        (λ later n. ((k : ℕ) → k < book.now.linking → LinkBegun G.Grade.own phases.now book.now k later n)) result }
-{
-    let mut n = found;
-    for k in 0..book.linking {
-        n = begin_link(book, phases, rows, waiting, n, k)?;
+    // Lets the rows of all watch lines wait, in each phase.
+    fn begin_watches(&mut self, setting: &Setting) -> Option<()>
+        requires table { TableOf G.Grade.own setting.now self.old }
+        requires start { setting.now.settled ≡ 0 }
+        ensures slices { SameSlices self.old self.new }
+        ensures ends { BeginsOf G.Grade.own setting.now self.old self.new
+            (λ later n. ((k : ℕ) → k < setting.now.book.now.watching → (i : ℕ) → i < length setting.now.phases.now → WatchBegun G.Grade.own setting.now.phases.now setting.now.book.now k i later n)) result }
+    {
+        for watch in setting.book.watches_in_use() {
+            // an index: rows name a phase by its place
+            for place in 0..setting.phases.len() {
+                self.offer(setting, watch_row(watch, place))?;
+            }
+        }
+        Some(())
     }
-    Some(n)
-}
 
-// Lets the rows of a watch line wait.
-fn begin_watch_line<G: Grade>(
-    book: &Book,
-    phases: &[u64],
-    rows: &mut [TableRow<G>],
-    waiting: &mut [Waiting<G>],
-    found: usize,
-    k: usize,
-) -> Option<usize>
-    requires table { Table G.Grade.own phases.now (lines book.now) rows.old 0 found waiting.old }
-    requires few { length phases.now ≤ 256 }
-    requires k { k < book.now.watching }
-    ensures { Ends G.Grade.own phases.now (lines book.now) 0 (Begins G.Grade.own phases.now (lines book.now)) rows.old found waiting.old rows.new waiting.new
-        (λ later n. ((i : ℕ) → i < length phases.now → WatchBegun G.Grade.own phases.now book.now k i later n)) result }
-{
-    let mut n = found;
-    for place in 0..phases.len() {
-        n = begin_watch(book, phases, rows, waiting, n, k, place)?;
+    // Lets the rows of the order wait, in each phase in which it is in force, if it lays nothing down.
+    fn begin_order(&mut self, setting: &Setting, order: &OrderLine) -> Option<()>
+        requires table { TableOf G.Grade.own setting.now self.old }
+        requires start { setting.now.settled ≡ 0 }
+        requires stands { Stands (lines setting.now.book.now) (line.Order order.now) }
+        ensures slices { SameSlices self.old self.new }
+        ensures ends { BeginsOf G.Grade.own setting.now self.old self.new
+            (λ later n. ((i : ℕ) → i < length setting.now.phases.now → OrderBegun G.Grade.own setting.now.phases.now order.now i later n)) result }
+    {
+        let Wagons::Zero = order.wagons else {
+            return Some(());
+        };
+        for (place, phase) in setting.phases.iter().enumerate() {
+            if contains(*phase, order.number) {
+                self.offer(setting, lone_row(order, place))?;
+            }
+        }
+        Some(())
     }
-    Some(n)
-}
 
-// Lets the rows of all watch lines wait.
-fn begin_watches<G: Grade>(
-    book: &Book,
-    phases: &[u64],
-    rows: &mut [TableRow<G>],
-    waiting: &mut [Waiting<G>],
-    found: usize,
-) -> Option<usize>
-    requires table { Table G.Grade.own phases.now (lines book.now) rows.old 0 found waiting.old }
-    requires few { length phases.now ≤ 256 }
-    ensures { Ends G.Grade.own phases.now (lines book.now) 0 (Begins G.Grade.own phases.now (lines book.now)) rows.old found waiting.old rows.new waiting.new
-        (λ later n. ((k : ℕ) → k < book.now.watching → (i : ℕ) → i < length phases.now → WatchBegun G.Grade.own phases.now book.now k i later n)) result }
-{
-    let mut n = found;
-    for k in 0..book.watching {
-        n = begin_watch_line(book, phases, rows, waiting, n, k)?;
+    // Lets the rows of all orders that lay nothing down wait.
+    fn begin_orders(&mut self, setting: &Setting) -> Option<()>
+        requires table { TableOf G.Grade.own setting.now self.old }
+        requires start { setting.now.settled ≡ 0 }
+        ensures slices { SameSlices self.old self.new }
+        ensures ends { BeginsOf G.Grade.own setting.now self.old self.new
+            (λ later n. ((k : ℕ) → k < 64 → RuleBegun G.Grade.own setting.now.phases.now (slice_index_or setting.now.book.now.rules k None) later n)) result }
+    {
+        for rule in &setting.book.rules {
+            match rule {
+                Some(Rule::Order(order)) => self.begin_order(setting, order)?,
+                Some(Rule::Notice(_)) => {}
+                None => {}
+            }
+        }
+        Some(())
     }
-    Some(n)
-}
 
-// Lets the rows of an order that lays nothing down wait.
-fn begin_order_line<G: Grade>(
-    book: &Book,
-    phases: &[u64],
-    rows: &mut [TableRow<G>],
-    waiting: &mut [Waiting<G>],
-    found: usize,
-    order: &OrderLine,
-) -> Option<usize>
-    requires table { Table G.Grade.own phases.now (lines book.now) rows.old 0 found waiting.old }
-    requires few { length phases.now ≤ 256 }
-    requires order { Stands (lines book.now) (line.Order order.now) × (laid_down order.now ≡ []) }
-    ensures { Ends G.Grade.own phases.now (lines book.now) 0 (Begins G.Grade.own phases.now (lines book.now)) rows.old found waiting.old rows.new waiting.new
-        (λ later n. ((i : ℕ) → i < length phases.now → OrderBegun G.Grade.own phases.now order.now i later n)) result }
-{
-    let mut n = found;
-    for place in 0..phases.len() {
-        n = begin_order(book, phases, rows, waiting, n, order, place)?;
+    // Lets all wait that rests on no other row. None where not all of that has a place.
+    pub(crate) fn begin(&mut self, setting: &Setting) -> Option<()>
+        requires table { TableOf G.Grade.own setting.now self.old }
+        requires start { (setting.now.settled ≡ 0) × (self.old.found ≡ 0) }
+        ensures slices { SameSlices self.old self.new }
+        ensures turned { TurnedOf G.Grade.own setting.now self.old setting.now.settled self.new result }
+    {
+        self.begin_links(setting)?;
+        self.begin_watches(setting)?;
+        self.begin_orders(setting)
     }
-    Some(n)
-}
-
-// Lets the rows of the rule with this number wait, if it is an order that lays nothing down.
-fn begin_rule<G: Grade>(
-    book: &Book,
-    phases: &[u64],
-    rows: &mut [TableRow<G>],
-    waiting: &mut [Waiting<G>],
-    found: usize,
-    number: usize,
-) -> Option<usize>
-    requires table { Table G.Grade.own phases.now (lines book.now) rows.old 0 found waiting.old }
-    requires few { length phases.now ≤ 256 }
-    requires number { number < 64 }
-    ensures { Ends G.Grade.own phases.now (lines book.now) 0 (Begins G.Grade.own phases.now (lines book.now)) rows.old found waiting.old rows.new waiting.new
-        (RuleBegun G.Grade.own phases.now book.now number) result }
-{
-    let rule = book.rules[number];
-    match rule {
-        Rule::Free | Rule::Notice(_) => Some(found),
-        Rule::Order(order) => match order.wagons {
-            Wagons::Zero => begin_order_line(book, phases, rows, waiting, found, &order),
-            Wagons::One(_) | Wagons::Two(_, _) => Some(found),
-        },
-    }
-}
-
-// Lets the rows of all orders that lay nothing down wait.
-fn begin_rules<G: Grade>(
-    book: &Book,
-    phases: &[u64],
-    rows: &mut [TableRow<G>],
-    waiting: &mut [Waiting<G>],
-    found: usize,
-) -> Option<usize>
-    requires table { Table G.Grade.own phases.now (lines book.now) rows.old 0 found waiting.old }
-    requires few { length phases.now ≤ 256 }
-    ensures { Ends G.Grade.own phases.now (lines book.now) 0 (Begins G.Grade.own phases.now (lines book.now)) rows.old found waiting.old rows.new waiting.new
-        (λ later n. ((k : ℕ) → k < 64 → RuleBegun G.Grade.own phases.now book.now k later n)) result }
-{
-    let mut n = found;
-    for number in 0..64 {
-        n = begin_rule(book, phases, rows, waiting, n, number)?;
-    }
-    Some(n)
-}
-
-// Lets all wait that rests on no other row. Answers how many rows there are; None where not all of them have a place.
-pub(crate) fn begin<G: Grade>(
-    book: &Book,
-    phases: &[u64],
-    rows: &mut [TableRow<G>],
-    waiting: &mut [Waiting<G>],
-) -> Option<usize>
-    requires table { Table G.Grade.own phases.now (lines book.now) rows.old 0 0 waiting.old }
-    requires few { length phases.now ≤ 256 }
-    ensures { Turned G.Grade.own phases.now (lines book.now) rows.old waiting.old 0 rows.new waiting.new result }
-{
-    let n = begin_links(book, phases, rows, waiting, 0)?;
-    let n = begin_watches(book, phases, rows, waiting, n)?;
-    begin_rules(book, phases, rows, waiting, n)
 }

@@ -1,27 +1,16 @@
-use Rattle.std.proofs.Common.{refl, inl, inr, arith}
+use Rattle.std.proofs.Common.{arith}
 use Rattle.std.proofs.lemmas.List.{length-take}
+use Rattle.saturation.proofs.Growth.{at_some}
 use Rattle.saturation.proofs.Finishing.{phases_listed}
 use Rattle.saturation.proofs.Finished.{complete_finished}
 use Rattle.saturation.proofs.book_rows.saturate_book.Goals as goal
 
 pub saturate-requires : goal.saturate-requires
 saturate-requires g c =
-    let p = c.in-Ok.phases in
+    let p = c.in_ok-phases.phases in
     let long = p.places.0 in
     let few = p.places.1 in
-    let taken = length-take p.count p.table in
-    record { opened = phases_listed p.table p.count (omega arith) c.in-Ok.ensures.1.filled; few = omega arith }
+    phases_listed p.table p.count (omega arith) c.in_ok-phases.ensures.1.filled
 
-pub returns-in-Err : goal.returns-in-Err
-returns-in-Err g c = record { told = inl (c.in-Err.ensures, refl, refl); table = tt }
-
-pub returns-in-Some : goal.returns-in-Some
-returns-in-Some g c =
-    let done = c.in-Some.ensures in
-    record {
-      told = record { allowed = c.in-Ok.ensures.0; opened = c.in-Ok.ensures.1; finished = complete_finished _ _ _ _ _ _ done };
-      table = done.table;
-    }
-
-pub returns-in-None : goal.returns-in-None
-returns-in-None g c = record { told = inr (refl, refl, c.in-Ok.ensures.0, c.in-None.ensures.0, c.in-None.ensures.1); table = tt }
+pub returns-clause-told : goal.returns-clause-told
+returns-clause-told g c = record { allowed = c.in_ok-phases.ensures.0; opened = c.in_ok-phases.ensures.1; finished = complete_finished _ _ _ _ _ _ (at_some _ _ c.saturate.result c.in_ok-rows.rows c.in_ok-rows.ensures.ok_part c.saturate.ensures) }
