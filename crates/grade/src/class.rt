@@ -1,4 +1,5 @@
 // The grade that keeps the largest class: a lower class is better.
+ghost use Rattle.std.specs.Prelude.{◌≡◌};
 ghost use Rattle.grade.specs.Grades.{no_class, toll_class, larger_class, lower_class};
 ghost use Rattle.std.proofs.Common.{rules, arith};
 ghost use Rattle.grade.specs.ValuesLemmas.{same_class};
@@ -68,4 +69,12 @@ impl Grade for Class {
     }
 
     fn agrees() {}
+}
+
+impl From<Class> for u32 {
+    ghost from_gives = { λ x y. y ≡ x.class.value };
+
+    fn from(grade: Class) -> u32 {
+        u32::from(grade.class.value)
+    }
 }

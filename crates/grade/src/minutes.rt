@@ -77,3 +77,13 @@ impl Grade for Minutes {
 
     fn agrees() {}
 }
+
+impl From<Minutes> for u32 {
+    ghost use Rattle.std.specs.Prelude.{◌≡◌};
+
+    ghost from_gives = { λ x y. y ≡ x.value };
+
+    fn from(grade: Minutes) -> u32 {
+        grade.value
+    }
+}

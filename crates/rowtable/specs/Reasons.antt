@@ -1,5 +1,5 @@
 -- Why a row is there: the rule that gives it, and the rows of the table that it rests on.
-use Rattle.std.specs.Prelude.{◌≡◌, List, [], ◌∷◌, ℕ, ◌<◌}
+use Rattle.std.specs.Prelude.{◌≡◌, List, [], ◌∷◌, ℕ, ◌<◌, Some, None, Option}
 use Rattle.grade.specs.declared.grade.Grade.{Ghosts}
 use Rattle.text.specs.declared.line.Line.{Line}
 use Rattle.rows.specs.Rows.{Row, Rule, link_rule, watch_rule, order_rule, notice_rule, premises, conclusion}
@@ -14,6 +14,12 @@ abbrev pub places : Reason → List ℕ
 places reason.Line = []
 places (reason.Order n a b) = a ∷ (b ∷ [])
 places (reason.Notice n a) = a ∷ []
+
+-- the number of the order or notice that it names
+abbrev pub reason_number : Reason → Option ℕ
+reason_number reason.Line = None
+reason_number (reason.Order n a b) = Some n
+reason_number (reason.Notice n a) = Some n
 
 -- The reason names the rule: that of a link or watch line, or of the order or notice with its number.
 abbrev pub Names : {ls : List Line} → Rule ls → Reason → Type 0

@@ -19,6 +19,21 @@ pub enum Reason {
     Notice(u8, usize),
 }
 
+impl Reason {
+    ghost use Rattle.std.specs.Prelude.{◌≡◌};
+    ghost use Rattle.rowtable.specs.Reasons.{reason_number};
+
+    // The number of the order or notice.
+    pub fn number(&self) -> Option<u8>
+        ensures { result ≡ reason_number self.now }
+    {
+        match *self {
+            Reason::Line => None,
+            Reason::Order(number, _, _) | Reason::Notice(number, _) => Some(number),
+        }
+    }
+}
+
 // A row with its grade. `rank` says as the how-manieth it was settled: a row rests only on rows of smaller rank.
 #[derive(Clone, Copy, Debug, PartialEq, Eq)]
 pub struct TableRow<G> {

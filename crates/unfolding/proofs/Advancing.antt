@@ -8,27 +8,32 @@ use Rattle.text.specs.declared.line.Wagons.{Wagons}
 use Rattle.text.specs.declared.line.Wagons.TheVariants.{Zero, One, Two}
 use Rattle.text.specs.declared.line.Line.{Line}
 use Rattle.text.specs.declared.line.Line.TheVariants.{Order, Notice}
+use Rattle.text.specs.declared.line.Rule.{Rule}
+use Rattle.text.specs.declared.line.Rule.TheVariants as rule
 use Rattle.text.specs.Forms.{listed}
 use Rattle.model.specs.Phases.{Stands, after}
 use Rattle.model.specs.Moves.{Position, at, Move, laid_down, Step, by_order, by_notice}
-use Rattle.model.specs.Laws.{NumbersOnce}
 use Rattle.rowtable.specs.declared.row.Reason.TheVariants as reason
 use Rattle.rowtable.specs.declared.row.TableRow.{TableRow}
-use Rattle.unfolding.specs.declared.stage.Stage.{Stage}
+use Rattle.moves.specs.declared.stage.Stage.{Stage}
 use Rattle.unfolding.specs.declared.stage.Shown.{Shown}
 use Rattle.unfolding.specs.declared.stage.UnfoldRefusal.{UnfoldRefusal}
 use Rattle.unfolding.specs.Runs.{parts, Earlier, LineRow, StandsFor, arrived, on_order, on_notice}
 use Rattle.unfolding.specs.Rest.{stage_of, stack, Roomy, Rest, Advances}
-use Rattle.unfolding.specs.Shows.{Shows, shows_order, shows_notice, Topmost, RowShown, Unfolded}
+use Rattle.unfolding.specs.Shows.{Under, Shows, shows_order, shows_notice, Topmost, RowShown, Unfolded}
 use Rattle.unfolding.proofs.Stacks.{stack_long}
 
 -- a number stands for one order and for one notice
-module _ (ls : List Line) (once : NumbersOnce ls) where
-  pub one_order : (o p : OrderLine) → Stands ls (Order o) → Stands ls (Order p) → o.number.value ≡ p.number.value → o ≡ p
-  one_order o p stands other same = let e : Order o ≡ Order p = once (Order o) (Order p) p.number.value stands other (ap Some same) refl in cc
+module _ (ls : List Line) (once : (number : ℕ) → (found : Option Rule) × Under ls number found) where
+  one_order : (o p : OrderLine) → Stands ls (Order o) → Stands ls (Order p) → o.number.value ≡ p.number.value → o ≡ p
+  one_order o p stands other same =
+      let (found, under) = once p.number.value in
+      let e : Some (rule.Order o) ≡ Some (rule.Order p) = sym ((under (rule.Order o)).0 (stands, same)) ∙ (under (rule.Order p)).0 (other, refl) in cc
 
-  pub one_notice : (v w : NoticeLine) → Stands ls (Notice v) → Stands ls (Notice w) → v.number.value ≡ w.number.value → v ≡ w
-  one_notice v w stands other same = let e : Notice v ≡ Notice w = once (Notice v) (Notice w) w.number.value stands other (ap Some same) refl in cc
+  one_notice : (v w : NoticeLine) → Stands ls (Notice v) → Stands ls (Notice w) → v.number.value ≡ w.number.value → v ≡ w
+  one_notice v w stands other same =
+      let (found, under) = once w.number.value in
+      let e : Some (rule.Notice v) ≡ Some (rule.Notice w) = sym ((under (rule.Notice v)).0 (stands, same)) ∙ (under (rule.Notice w)).0 (other, refl) in cc
 
 -- what a row shows is one thing
 record Same (number to then : ℕ) (js : List ℕ) (number' to' then' : ℕ) (js' : List ℕ) : Type 0 where
@@ -56,7 +61,7 @@ last_of P [] ks k all = all.0
 last_of P (j ∷ js) ks k all = last_of P js ks k all.1
 
 module _ {G : Type 0} (m : Ghosts G) (ls : List Line) (rows : List (TableRow G)) (n : ℕ) where
-  shows_one : (once : NumbersOnce ls) {places k : ℕ} {ks : List ℕ} {mode phase number to then number' to' then' : ℕ} {js js' : List ℕ} → Shows m ls rows n places k ks mode phase number to then js
+  shows_one : (once : (number : ℕ) → (found : Option Rule) × Under ls number found) {places k : ℕ} {ks : List ℕ} {mode phase number to then number' to' then' : ℕ} {js js' : List ℕ} → Shows m ls rows n places k ks mode phase number to then js
       → Shows m ls rows n places k ks mode phase number' to' then' js' → Same number to then js number' to' then' js'
   shows_one once {ks = ks} (shows_order o a b by) (shows_order p c d other) =
       let e : reason.Order o.number.value a b ≡ reason.Order p.number.value c d = sym by.why ∙ other.why in
@@ -151,7 +156,7 @@ module _ {G : Type 0} (m : Ghosts G) (ls : List Line) (rows : List (TableRow G))
   topmost_first k ks l ls' other [] lines is = (cc, cc)
   topmost_first k ks l ls' other (j ∷ js) lines is = let same : k ≡ j = cc in absurd (other (subst (LineRow m rows n) (sym same) lines.0))
 
-  module _ (once : NumbersOnce ls) (list after : List ℕ) (x : Position) where
+  module _ (once : (number : ℕ) → (found : Option Rule) × Under ls number found) (list after : List ℕ) (x : Position) where
     abbrev all : List ℕ
     all = stack list (length x.lane)
 
@@ -221,6 +226,6 @@ module _ {G : Type 0} (m : Ghosts G) (ls : List Line) (rows : List (TableRow G))
     advances (v ∷ ms) r rest told kept = advances_move v ms rest r told kept
 
   -- the same from a stage
-  pub advances_from : NumbersOnce ls → (list after : List ℕ) (stage : Stage) (r : Result (Option Shown) UnfoldRefusal) → Unfolded m ls rows n list stage after r → length after ≡ length list
+  pub advances_from : ((number : ℕ) → (found : Option Rule) × Under ls number found) → (list after : List ℕ) (stage : Stage) (r : Result (Option Shown) UnfoldRefusal) → Unfolded m ls rows n list stage after r → length after ≡ length list
       → (x : Position) (ms : List Move) → stage ≡ stage_of x → Rest m ls rows n list x ms → Advances m ls rows n after x ms r
   advances_from once list after stage r told kept x ms is rest = advances once list after x ms r rest (subst (λ s. Unfolded m ls rows n list s after r) is told) kept

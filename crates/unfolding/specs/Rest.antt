@@ -13,7 +13,7 @@ use Rattle.rowtable.specs.Tables.{row_at, Exists, state_of}
 use Rattle.rowtable.specs.Paths.{RowPath}
 use Rattle.rowtable.specs.Saturated.{SaturatedTable}
 use Rattle.rows.specs.Rows.{head}
-use Rattle.unfolding.specs.declared.stage.Stage.{Stage}
+use Rattle.moves.specs.declared.stage.Stage.{Stage}
 use Rattle.unfolding.specs.declared.stage.Shown.{Shown}
 use Rattle.unfolding.specs.declared.stage.UnfoldRefusal.{UnfoldRefusal}
 use Rattle.unfolding.specs.Runs.{StandsFor}

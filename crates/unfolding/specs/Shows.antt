@@ -1,16 +1,20 @@
 -- What the rows of any table show next.
-use Rattle.std.specs.Prelude.{◌≡◌, ℕ, ◌-◌, ◌<◌, ◌≤◌, ◌⊎◌, List, ◌∷◌, ◌++◌, length, Option, Result, MatchOption, MatchResult, slice_index}
+use Rattle.std.specs.Prelude.{◌≡◌, ℕ, ◌<◌, ◌≤◌, ◌⊎◌, ◌↔◌, List, ◌∷◌, ◌++◌, length, Some, Option, Result, MatchOption, MatchResult, slice_index}
 use Rattle.std.specs.List.{AllByRecursion}
 use Rattle.grade.specs.declared.grade.Grade.{Ghosts}
 use Rattle.text.specs.declared.line.OrderLine.{OrderLine}
 use Rattle.text.specs.declared.line.NoticeLine.{NoticeLine}
 use Rattle.text.specs.declared.line.Line.{Line}
 use Rattle.text.specs.declared.line.Line.TheVariants.{Order, Notice}
+use Rattle.text.specs.declared.line.Rule.{Rule}
+use Rattle.text.specs.declared.line.Rule.TheVariants as rule
+use Rattle.text.specs.Reading.{rule_line}
 use Rattle.model.specs.Phases.{Stands, InForce, Allows, after}
 use Rattle.rowtable.specs.declared.row.Reason.TheVariants as reason
 use Rattle.rowtable.specs.declared.row.TableRow.{TableRow}
 use Rattle.rowtable.specs.Tables.{row_at}
-use Rattle.unfolding.specs.declared.stage.Stage.{Stage}
+use Rattle.moves.specs.declared.stage.Stage.{Stage}
+use Rattle.moves.specs.Moving.{number_of}
 use Rattle.unfolding.specs.declared.stage.Shown.{Shown}
 use Rattle.unfolding.specs.declared.stage.UnfoldRefusal.{UnfoldRefusal}
 use Rattle.unfolding.specs.declared.stage.UnfoldRefusal.TheVariants.{BrokenRow}
@@ -51,13 +55,30 @@ module _ {G : Type 0} (m : Ghosts G) (ls : List Line) (rows : List (TableRow G))
   abbrev pub ShowsNone : (k : ℕ) (ks : List ℕ) (mode phase : ℕ) → Type 0
   ShowsNone k ks mode phase = (number to then : ℕ) (js : List ℕ) → Shows k ks mode phase number to then js → ⊥
 
--- What the top of the stack shows from a stage. The list then holds the rows that are left to unfold, one for each wagon; it is unchanged where nothing is shown.
-abbrev pub TopShown : {G : Type 0} → Ghosts G → List Line → (rows : List (TableRow G)) (n : ℕ) (list : List ℕ) → Stage → List ℕ → Result Shown UnfoldRefusal → Type 0
-TopShown m ls rows n list stage after r =
-    MatchResult r
+-- what stands under a number: the order or notice with it, if there is one
+abbrev pub Under : List Line → (number : ℕ) → Option Rule → Type 0
+Under ls number r = (x : Rule) → (Stands ls (rule_line x) × (number_of x ≡ number)) ↔ (r ≡ Some x)
+
+-- row a is one of these, and of a rank below this one
+abbrev pub Below : {G : Type 0} → Ghosts G → List (TableRow G) → (rank : ℕ) → ℕ → Type 0
+Below m rows rank a = (a < length rows) × ((row_at m rows a).rank < rank)
+
+-- Where a rule leads from a stage, for all that is known of the lane: to its other mode and, by a notice, to another phase.
+abbrev pub Led : Rule → Stage → Option Stage → Type 0
+Led (rule.Order o) stage r =
+    MatchOption r (o.mode.value ≡ stage.mode → InForce stage.phase o.number.value → ⊥)
+    (λ s. (o.mode.value ≡ stage.mode) × InForce stage.phase o.number.value × (s ≡ record stage { mode = o.to.value }))
+Led (rule.Notice v) stage r =
+    MatchOption r (v.mode.value ≡ stage.mode → Allows v stage.phase → ⊥)
+    (λ s. (v.mode.value ≡ stage.mode) × Allows v stage.phase × (s ≡ record stage { mode = v.to.value; phase = after v stage.phase }))
+
+-- What the row at the top shows from a stage. The list then holds the rows that are left to unfold, one for each wagon; it is unchanged where nothing is shown.
+abbrev pub TopShown : {G : Type 0} → Ghosts G → List Line → (rows : List (TableRow G)) (list : List ℕ) (top : ℕ) → Stage → List ℕ → Option Shown → Type 0
+TopShown m ls rows list top stage after r =
+    MatchOption r
+    (ShowsNone m ls rows (length rows) (length list) (slice_index list top) (stack list top) stage.mode stage.phase × (after ≡ list))
     (λ s. (s.after.length ≤ length after)
-    × Shows m ls rows n (length list) (slice_index list (stage.length - 1)) (stack list (stage.length - 1)) stage.mode stage.phase s.number s.after.mode s.after.phase (stack after s.after.length))
-    (λ e. ShowsNone m ls rows n (length list) (slice_index list (stage.length - 1)) (stack list (stage.length - 1)) stage.mode stage.phase × (after ≡ list))
+    × Shows m ls rows (length rows) (length list) (slice_index list top) (stack list top) stage.mode stage.phase s.number s.after.mode s.after.phase (stack after s.after.length))
 
 -- k is the topmost row on the stack that is not a line's, and ks are the rows below it
 pub record Topmost {G : Type 0} (m : Ghosts G) (rows : List (TableRow G)) (n : ℕ) (all : List ℕ) (k : ℕ) (ks : List ℕ) : Type 0 where

@@ -1,57 +1,47 @@
 // The list of rows that are left to unfold, as a stack.
-ghost use Rattle.std.specs.Prelude.{◌≡◌, ◌+◌, ◌-◌, ◌<◌, ◌≤◌, ◌++◌, length, MatchOption};
-ghost use Rattle.unfolding.specs.Runs.{parts};
-ghost use Rattle.unfolding.specs.Rest.{stack};
-ghost use Rattle.unfolding.specs.Stacks.{PassedLines, Replaced};
+ghost use Rattle.std.specs.Prelude.{◌≡◌, ◌<◌, All, length, reverse, slice_index, MatchOption};
+ghost use Rattle.unfolding.specs.Runs.{parts, LineRow};
+ghost use Rattle.unfolding.specs.Stacks.{PassedLines, MadeWay};
 
-use crate::lookup::is_line;
+use crate::lookup::{are_below, is_line};
 use grade::grade::Grade;
 use rowtable::row::TableRow;
 use text::line::Wagons;
 
-// How many rows are left on the stack once those of lines on top are passed over.
-pub(crate) fn pass_lines<G: Grade>(
-    rows: &[TableRow<G>],
-    count: usize,
-    list: &[usize],
-    listed: usize,
-) -> usize
-    requires rows { count ≤ length rows.now }
-    requires listed { listed ≤ length list.now }
-    ensures { PassedLines G.Grade.own rows.now count list.now listed result }
+// The place of the topmost row on the stack that is not a line's.
+pub(crate) fn topmost<G: Grade>(rows: &[TableRow<G>], stack: &[usize]) -> Option<usize>
+    ensures { MatchOption result (All (LineRow G.Grade.own rows.now (length rows.now)) stack.now) (PassedLines G.Grade.own rows.now stack.now) }
 {
-    let mut left = listed;
-    while left > 0 && is_line(rows, count, list[left - 1]) {
-        left -= 1;
-    }
-    left
+    stack.iter().rposition(|place| !is_line(rows, *place))
 }
 
-// Puts the rows that an order's row rests on in the place of the top; None, with nothing changed, where there is no room.
-pub(crate) fn replace_top(
-    list: &mut [usize],
-    listed: usize,
-    wagons: Wagons,
-    a: usize,
-    b: usize,
-) -> Option<usize>
-    requires { (0 < listed) × (listed ≤ length list.old) }
-    ensures { Replaced list.old (listed - 1) (parts wagons a b) list.new result }
+// The places of the rows that an order's row rests on, the first on top and so last. Of the two, as many count as it sets down wagons.
+pub(crate) fn parts_of(wagons: Wagons, both: &[usize; 2]) -> &[usize]
+    ensures { result.now ≡ reverse (parts wagons (slice_index both.now 1) (slice_index both.now 0)) }
 {
-    let top = listed - 1;
     match wagons {
-        Wagons::Zero => Some(top),
-        Wagons::One(_) => {
-            list[top] = a;
-            Some(listed)
-        }
-        Wagons::Two(_, _) => {
-            if listed >= list.len() {
-                return None;
-            }
-            list[top] = b;
-            list[listed] = a;
-            Some(listed + 1)
-        }
+        Wagons::Zero => &both[2..],
+        Wagons::One(_) => &both[1..],
+        Wagons::Two(_, _) => &both[..],
     }
+}
+
+// Puts these rows in the place of the row at the top, which has this rank, and tells how many there are on the stack then. None, with
+// nothing changed, where one is not there or of no smaller rank, or where there is no room.
+pub(crate) fn make_way<G: Grade>(
+    rows: &[TableRow<G>],
+    rank: usize,
+    list: &mut [usize],
+    top: usize,
+    parts: &[usize],
+) -> Option<usize>
+    requires { top < length list.old }
+    ensures { MadeWay G.Grade.own rows.now rank list.old top parts.now list.new result }
+{
+    let end = top + parts.len();
+    if end > list.len() || !are_below(rows, rank, parts) {
+        return None;
+    }
+    list[top..end].copy_from_slice(parts);
+    Some(end)
 }

@@ -1,70 +1,66 @@
 // What rows name, looked up where it should be.
-ghost use Rattle.std.specs.Prelude.{◌≡◌, ◌<◌, ◌≤◌, length, Decides, slice_index_or};
-ghost use Rattle.std.specs.List.{AllByRecursion};
-ghost use Rattle.book.specs.declared.rule.Rule.TheVariants as rule;
-ghost use Rattle.unfolding.specs.Runs.{parts, Earlier, LineRow};
+ghost use Rattle.std.specs.Prelude.{All, length, Decides};
+ghost use Rattle.book.specs.Lines.{lines};
+ghost use Rattle.unfolding.specs.Runs.{LineRow};
+ghost use Rattle.unfolding.specs.Shows.{Under, Below, Led};
 
-use book::rule::Rule;
 use book::tables::Book;
 use grade::grade::Grade;
+use moves::phase::{after_notice, allowed};
+use moves::stage::Stage;
 use rowtable::row::{Reason, TableRow};
-use text::line::Wagons;
+use text::line::Rule;
+use text::phase::contains;
 
-// What stands under a number.
-pub(crate) fn rule_under(book: &Book, number: u8) -> Rule
-    ensures { result ≡ slice_index_or book.now.rules number rule.Free }
+// The order or notice that stands under a number.
+pub(crate) fn rule_under(book: &Book, number: u8) -> Option<Rule>
+    ensures { Under (lines book.now) number result }
 {
-    let place = number as usize;
-    if place < book.rules.len() {
-        book.rules[place]
-    } else {
-        Rule::Free
-    }
+    *book.rules.get(usize::from(number))?
 }
 
 // Whether the row at a place is there, by a watch line or a link line.
-pub(crate) fn is_line<G: Grade>(rows: &[TableRow<G>], count: usize, place: usize) -> bool
-    requires { count ≤ length rows.now }
-    ensures { Decides result (LineRow G.Grade.own rows.now count place) }
+pub(crate) fn is_line<G: Grade>(rows: &[TableRow<G>], place: usize) -> bool
+    ensures { Decides result (LineRow G.Grade.own rows.now (length rows.now) place) }
 {
-    if place >= count {
-        return false;
-    }
-    let row = rows[place];
-    match row.reason {
-        Reason::Line => true,
-        Reason::Order(_, _, _) | Reason::Notice(_, _) => false,
-    }
+    rows.get(place)
+        .is_some_and(|row| row.reason == Reason::Line)
 }
 
-// Whether the row at `part` is there, and of smaller rank than the row at `place`.
-pub(crate) fn is_earlier<G: Grade>(
-    rows: &[TableRow<G>],
-    count: usize,
-    place: usize,
-    part: usize,
-) -> bool
-    requires { (count ≤ length rows.now) × (place < count) }
-    ensures { Decides result (Earlier G.Grade.own rows.now count place part) }
+// Whether the row at a place is there, and of smaller rank.
+fn is_below<G: Grade>(rows: &[TableRow<G>], rank: usize, place: usize) -> bool
+    ensures { Decides result (Below G.Grade.own rows.now rank place) }
 {
-    part < count && rows[part].rank < rows[place].rank
+    rows.get(place).is_some_and(|row| row.rank < rank)
 }
 
-// Whether the rows that an order's row rests on are.
-pub(crate) fn are_earlier<G: Grade>(
-    rows: &[TableRow<G>],
-    count: usize,
-    place: usize,
-    wagons: Wagons,
-    a: usize,
-    b: usize,
-) -> bool
-    requires { (count ≤ length rows.now) × (place < count) }
-    ensures { Decides result (AllByRecursion (Earlier G.Grade.own rows.now count place) (parts wagons a b)) }
+// Whether the rows at all these places are.
+pub(crate) fn are_below<G: Grade>(rows: &[TableRow<G>], rank: usize, places: &[usize]) -> bool
+    ensures { Decides result (All (Below G.Grade.own rows.now rank) places.now) }
 {
-    match wagons {
-        Wagons::Zero => true,
-        Wagons::One(_) => is_earlier(rows, count, place, a),
-        Wagons::Two(_, _) => is_earlier(rows, count, place, a) && is_earlier(rows, count, place, b),
+    places.iter().all(|place| is_below(rows, rank, *place))
+}
+
+// Where the rule leads from a stage, for all that is known of the lane; None where it cannot be carried out there.
+pub(crate) fn led_to(rule: &Rule, stage: Stage) -> Option<Stage>
+    ensures { Led rule.now stage result }
+{
+    match rule {
+        Rule::Order(order) => {
+            let fits = u16::from(stage.mode) == order.mode.value
+                && contains(stage.phase, order.number);
+            fits.then_some(Stage {
+                mode: order.to.value as u8,
+                ..stage
+            })
+        }
+        Rule::Notice(notice) => {
+            let fits = u16::from(stage.mode) == notice.mode.value && allowed(notice, stage.phase);
+            fits.then_some(Stage {
+                mode: notice.to.value as u8,
+                phase: after_notice(stage.phase, notice),
+                ..stage
+            })
+        }
     }
 }

@@ -5,11 +5,12 @@ ghost use Rattle.model.specs.Moves.{Position, Move};
 ghost use Rattle.unfolding.specs.Rest.{stage_of, Rest, Advances};
 ghost use Rattle.unfolding.specs.Shows.{Unfolded};
 
-use crate::list::pass_lines;
+use crate::list::topmost;
 use crate::show::show_top;
-use crate::stage::{Shown, Stage, UnfoldRefusal};
+use crate::stage::{Shown, UnfoldRefusal};
 use book::tables::Book;
 use grade::grade::Grade;
+use moves::stage::Stage;
 use rowtable::row::TableRow;
 
 // Shows the next move of the rows on the list, of which there are as many as the lane has wagons, the topmost last; None where no
@@ -25,20 +26,15 @@ pub fn unfold<G: Grade>(
     ensures runs { (x : Position) (ms : List Move) → stage ≡ stage_of x → Rest G.Grade.own (lines book.now) rows.now count list.old x ms
         → Advances G.Grade.own (lines book.now) rows.now count list.new x ms result }
 {
-    if count > rows.len() || stage.length > list.len() {
+    // The count stands beside the rows: any may be handed over, and one too large is refused.
+    let (Some(rows), Some(stack)) = (rows.get(..count), list.get(..stage.length)) else {
         return Err(UnfoldRefusal::BrokenRow);
-    }
-    let left = pass_lines(rows, count, list, stage.length);
-    if left == 0 {
-        return Ok(None);
-    }
-    let top = Stage {
-        mode: stage.mode,
-        phase: stage.phase,
-        length: left,
     };
-    match show_top(book, rows, count, list, top) {
-        Ok(shown) => Ok(Some(shown)),
-        Err(refusal) => Err(refusal),
-    }
+    let Some(top) = topmost(rows, stack) else {
+        return Ok(None);
+    };
+    let Some(shown) = show_top(book, rows, list, top, stage) else {
+        return Err(UnfoldRefusal::BrokenRow);
+    };
+    Ok(Some(shown))
 }

@@ -1,7 +1,11 @@
-use Rattle.std.proofs.Common.{sym, arith}
-use Rattle.std.proofs.lemmas.List.{get_or_past}
-use Rattle.book.specs.declared.rule.Rule.TheVariants.{Free}
+use Rattle.std.proofs.Common.{◌≡◌, None, get_or, sym, subst, rules}
+use Rattle.book.specs.Lines.{lines}
+use Rattle.unfolding.specs.Shows.{Under}
+use Rattle.unfolding.proofs.Finding.{found_under}
 use Rattle.unfolding.proofs.lookup.rule_under.Goals as goal
 
-pub returns-else-place-lt64 : goal.returns-else-place-lt64
-returns-else-place-lt64 c = let long = c.args.book.now.numbered.0 in let past = c.if-place-lt64.false in sym (get_or_past c.args.book.now.rules c.args.number Free (omega arith))
+pub returns : goal.returns
+returns c =
+    let b = c.args.book.now in
+    let is : c.in_ok-get.field-0.now ≡ get_or b.rules c.args.number None = search rules in
+    subst (Under (lines b) c.args.number) (sym is) (found_under b c.args.number)

@@ -1,69 +1,69 @@
-use Rattle.std.proofs.Common.{◌≡◌, ◌-◌, ◌<◌, length, get_or, sym, refl, ap, ◌∙◌, subst, arith}
-use Rattle.book.proofs.Standing.{order_stands, notice_stands}
-use Rattle.book.specs.declared.rule.Rule.TheVariants as rule
-use Rattle.rowtable.specs.declared.row.Reason.TheVariants as reason
-use Rattle.rowtable.specs.Tables.{row_at}
-use Rattle.unfolding.proofs.Showing.{read_row, found_order, found_notice, none_past, none_line, none_order, none_notice}
+use Rattle.std.proofs.Common.{length, sym, refl, subst, arith}
+use Rattle.book.specs.Lines.{lines}
+use Rattle.rowtable.specs.Tables.{blank_row}
+use Rattle.unfolding.specs.Stacks.{Fit, Put}
+use Rattle.unfolding.proofs.Showing.{none_past, none_line, none_found, none_led, none_order, none_notice, order_stuck, order_shown, notice_stuck, notice_shown}
 use Rattle.unfolding.proofs.show.show_top.Goals as goal
 
-pub returns-then-place-count : goal.returns-then-place-count
-returns-then-place-count g c = (none_past (λ lt. let past = c.if-place-count.true in omega arith), refl)
+pub returns-in_err-row : goal.returns-in_err-row
+returns-in_err-row g c =
+    rw c.from_residual.ensures (none_past g.G.Grade (lines c.args.book.now) c.args.rows.now c.args.list.now c.args.top c.args.stage c.in_err-row.ensures.lookup.3, refl)
 
-pub returns-in-Line : goal.returns-in-Line
-returns-in-Line g c =
-    let rows = c.args.rows.now in
-    let k = get_or c.args.list.now (c.args.stage.length - 1) 0 in
-    let lt : k < length rows = let below = c.if-place-count.false in let enough = c.requires.rows in omega arith in
-    (none_line (ap (λ r. r.reason) (read_row g.G.Grade rows k c.index-rows-place.result lt c.index-rows-place.is) ∙ c.in-Line.is), refl)
+pub returns-in_err-number : goal.returns-in_err-number
+returns-in_err-number g c =
+    let here = c.in_ok-row.ensures.lookup.3 in
+    rw c.from_residual-in_err-number.ensures
+    (none_line g.G.Grade (lines c.args.book.now) c.args.rows.now c.args.list.now c.args.top c.args.stage c.requires c.in_ok-row.row.now (here.1 (blank_row g.G.Grade.best)) c.in_err-number.ensures, refl)
 
-pub show_order-requires : goal.show_order-requires
-show_order-requires g c =
-    let rows = c.args.rows.now in
-    let k = get_or c.args.list.now (c.args.stage.length - 1) 0 in
-    let lt : k < length rows = let below = c.if-place-count.false in let enough = c.requires.rows in omega arith in
-    let why : (row_at g.G.Grade rows k).reason ≡ reason.Order c.in-Order.number c.in-Order.a c.in-Order.b = ap (λ r. r.reason) (read_row g.G.Grade rows k c.index-rows-place.result lt c.index-rows-place.is) ∙ c.in-Order.is in
-    let (stands, is) = found_order c.args.book.now c.in-Order.number c.in-Order-rule_under.order (sym c.rule_under.ensures ∙ c.in-Order-rule_under.is) in
-    record {
-      rows = c.requires.rows;
-      listed = c.requires.listed;
-      there = c.if-place-count.false;
-      why = subst (λ j. (row_at g.G.Grade rows k).reason ≡ reason.Order j c.in-Order.a c.in-Order.b) (sym is) why;
-      stands = stands;
-    }
+pub returns-in_err-rule : goal.returns-in_err-rule
+returns-in_err-rule g c =
+    let here = c.in_ok-row.ensures.lookup.3 in
+    rw c.from_residual-in_err-rule.ensures
+    (none_found g.G.Grade (lines c.args.book.now) c.args.rows.now c.args.list.now c.args.top c.args.stage c.requires c.in_ok-row.row.now (here.1 (blank_row g.G.Grade.best)) c.in_ok-number.ensures c.in_err-rule.ensures refl, refl)
+
+pub returns-in_err-after : goal.returns-in_err-after
+returns-in_err-after g c =
+    let here = c.in_ok-row.ensures.lookup.3 in
+    rw c.from_residual-in_err-after.ensures
+    (none_led g.G.Grade (lines c.args.book.now) c.args.rows.now c.args.list.now c.args.top c.args.stage c.requires c.in_ok-row.row.now (here.1 (blank_row g.G.Grade.best)) c.in_ok-number.ensures c.in_ok-rule.ensures c.in_ok-rule.rule refl c.in_err-after.ensures, refl)
+
+pub returns-in_err-length-in-Order-Order : goal.returns-in_err-length-in-Order-Order
+returns-in_err-length-in-Order-Order g c =
+    let here = c.in_ok-row.ensures.lookup.3 in
+    let (stuck, same) = c.in_err-length-in-Order-Order.ensures in
+    rw c.from_residual-in_err-length-in-Order-Order.ensures (
+      order_stuck g.G.Grade (lines c.args.book.now) c.args.rows.now c.args.list.now c.args.top c.args.stage c.requires c.in_ok-row.row.now (here.1 (blank_row g.G.Grade.best)) c.in_ok-number.ensures c.in_ok-rule.ensures refl c.in-Order-Order.is-0 c.in-Order-Order.is-1
+          (λ fits. stuck (subst (Fit g.G.Grade c.args.rows.now c.in_ok-row.row.now.rank (length c.args.list.now) c.args.top) (sym c.parts_of.ensures) fits)),
+      same,
+    )
+
+pub returns-in_err-length-in-Notice-Notice : goal.returns-in_err-length-in-Notice-Notice
+returns-in_err-length-in-Notice-Notice g c =
+    let here = c.in_ok-row.ensures.lookup.3 in
+    let (stuck, same) = c.in_err-length-in-Notice-Notice.ensures in
+    rw c.from_residual-in_err-length-in-Notice-Notice.ensures
+    (notice_stuck g.G.Grade (lines c.args.book.now) c.args.rows.now c.args.list.now c.args.top c.args.stage c.requires c.in_ok-row.row.now (here.1 (blank_row g.G.Grade.best)) c.in_ok-number.ensures c.in_ok-rule.ensures refl c.in-Notice-Notice.is-0 c.in-Notice-Notice.is-1 stuck, same)
 
 pub returns-in_default : goal.returns-in_default
 returns-in_default g c =
-    let rows = c.args.rows.now in
-    let k = get_or c.args.list.now (c.args.stage.length - 1) 0 in
-    let lt : k < length rows = let below = c.if-place-count.false in let enough = c.requires.rows in omega arith in
-    let why : (row_at g.G.Grade rows k).reason ≡ reason.Order c.in-Order.number c.in-Order.a c.in-Order.b = ap (λ r. r.reason) (read_row g.G.Grade rows k c.index-rows-place.result lt c.index-rows-place.is) ∙ c.in-Order.is in (
-      none_order c.in-Order.number c.in-Order.a c.in-Order.b why (λ o stands is.
-          c.in_default.not-Order o (c.rule_under.ensures ∙ subst (λ j. get_or c.args.book.now.rules j rule.Free ≡ rule.Order o) is ((order_stands c.args.book.now o).0 stands))),
-      refl,
-    )
+    let here = c.in_ok-row.ensures.lookup.3 in
+    (none_order g.G.Grade (lines c.args.book.now) c.args.rows.now c.args.list.now c.args.top c.args.stage c.requires c.in_ok-row.row.now (here.1 (blank_row g.G.Grade.best)) c.in_ok-number.ensures c.in_ok-rule.ensures refl c.in_default.is-0 c.in_default.not-Order-1, refl)
 
-pub show_notice-requires : goal.show_notice-requires
-show_notice-requires g c =
-    let rows = c.args.rows.now in
-    let k = get_or c.args.list.now (c.args.stage.length - 1) 0 in
-    let lt : k < length rows = let below = c.if-place-count.false in let enough = c.requires.rows in omega arith in
-    let why : (row_at g.G.Grade rows k).reason ≡ reason.Notice c.in-Notice.number c.in-Notice.a = ap (λ r. r.reason) (read_row g.G.Grade rows k c.index-rows-place.result lt c.index-rows-place.is) ∙ c.in-Notice.is in
-    let (stands, is) = found_notice c.args.book.now c.in-Notice.number c.in-Notice-rule_under.notice (sym c.rule_under-in-Notice.ensures ∙ c.in-Notice-rule_under.is) in
-    record {
-      rows = c.requires.rows;
-      listed = c.requires.listed;
-      there = c.if-place-count.false;
-      why = subst (λ j. (row_at g.G.Grade rows k).reason ≡ reason.Notice j c.in-Notice.a) (sym is) why;
-      stands = stands;
-    }
+pub returns-in_default-2 : goal.returns-in_default-2
+returns-in_default-2 g c =
+    let here = c.in_ok-row.ensures.lookup.3 in
+    (none_notice g.G.Grade (lines c.args.book.now) c.args.rows.now c.args.list.now c.args.top c.args.stage c.requires c.in_ok-row.row.now (here.1 (blank_row g.G.Grade.best)) c.in_ok-number.ensures c.in_ok-rule.ensures refl c.in_default.is-0 c.in_default.not-Notice-1, refl)
 
-pub returns-in_default-rule_under : goal.returns-in_default-rule_under
-returns-in_default-rule_under g c =
-    let rows = c.args.rows.now in
-    let k = get_or c.args.list.now (c.args.stage.length - 1) 0 in
-    let lt : k < length rows = let below = c.if-place-count.false in let enough = c.requires.rows in omega arith in
-    let why : (row_at g.G.Grade rows k).reason ≡ reason.Notice c.in-Notice.number c.in-Notice.a = ap (λ r. r.reason) (read_row g.G.Grade rows k c.index-rows-place.result lt c.index-rows-place.is) ∙ c.in-Notice.is in (
-      none_notice c.in-Notice.number c.in-Notice.a why (λ v stands is.
-          c.in_default-rule_under.not-Notice v (c.rule_under-in-Notice.ensures ∙ subst (λ j. get_or c.args.book.now.rules j rule.Free ≡ rule.Notice v) is ((notice_stands c.args.book.now v).0 stands))),
-      refl,
-    )
+pub returns-in_ok-length-in-Order-Order : goal.returns-in_ok-length-in-Order-Order
+returns-in_ok-length-in-Order-Order g c =
+    let here = c.in_ok-row.ensures.lookup.3 in
+    let count = c.in_ok-length-in-Order-Order.length in
+    let after = c.make_way.new.list in
+    let put = subst (λ ps. Put g.G.Grade c.args.rows.now c.in_ok-row.row.now.rank c.args.list.now c.args.top ps after count) c.parts_of.ensures c.in_ok-length-in-Order-Order.ensures in
+    (let kept = put.kept in let listed = put.listed in omega arith, order_shown g.G.Grade (lines c.args.book.now) c.args.rows.now c.args.list.now c.args.top c.args.stage c.requires c.in_ok-row.row.now (here.1 (blank_row g.G.Grade.best)) c.in_ok-number.ensures c.in_ok-rule.ensures refl c.in-Order-Order.is-0 c.in-Order-Order.is-1 here.0 c.in_ok-after.after c.in_ok-after.ensures after count put)
+
+pub returns-in_ok-length-in-Notice-Notice : goal.returns-in_ok-length-in-Notice-Notice
+returns-in_ok-length-in-Notice-Notice g c =
+    let here = c.in_ok-row.ensures.lookup.3 in
+    let put = c.in_ok-length-in-Notice-Notice.ensures in
+    (let kept = put.kept in let listed = put.listed in omega arith, notice_shown g.G.Grade (lines c.args.book.now) c.args.rows.now c.args.list.now c.args.top c.args.stage c.requires c.in_ok-row.row.now (here.1 (blank_row g.G.Grade.best)) c.in_ok-number.ensures c.in_ok-rule.ensures refl c.in-Notice-Notice.is-0 c.in-Notice-Notice.is-1 here.0 c.in_ok-after.after c.in_ok-after.ensures c.make_way-in-Notice-Notice.new.list c.in_ok-length-in-Notice-Notice.length put)

@@ -1,57 +1,80 @@
-use Rattle.std.proofs.Common.{◌≡◌, ◌-◌, ◌<◌, ◌∷◌, ◌++◌, get_or, Some, None, Ok, Err, sym, refl, ap, ◌∙◌, subst, inr, arith}
-use Rattle.std.proofs.lemmas.List.{append-nil}
-use Rattle.std.specs.List.{AllByRecursion}
+use Rattle.std.proofs.Common.{get_or, Some, None, Ok, Err, refl, ◌∙◌, inr}
+use Rattle.std.proofs.lemmas.Slice.{between_from_start}
 use Rattle.book.specs.Lines.{lines}
-use Rattle.phases.proofs.Naming.{numbers_stand_once}
-use Rattle.unfolding.specs.Runs.{LineRow}
 use Rattle.unfolding.specs.Rest.{stack}
+use Rattle.unfolding.specs.declared.stage.UnfoldRefusal.TheVariants.{BrokenRow}
 use Rattle.unfolding.specs.Shows.{Unfolded}
-use Rattle.unfolding.proofs.Stacks.{stack_top}
-use Rattle.unfolding.proofs.Showing.{only_number}
+use Rattle.unfolding.proofs.Finding.{found_once}
 use Rattle.unfolding.proofs.Advancing.{advances_from}
+use Rattle.unfolding.proofs.Cutting.{shows, shows_none, all_lines, topmost}
 use Rattle.unfolding.proofs.unfold.unfold.Goals as goal
 
-pub returns-then-left-eq0 : goal.returns-then-left-eq0
-returns-then-left-eq0 g c =
+pub returns-in_default-topmost : goal.returns-in_default-topmost
+returns-in_default-topmost g c =
     let m = g.G.Grade in
+    let ls = lines c.args.book.now in
+    let rows = c.args.rows.now in
+    let n = c.args.count in
     let list = c.args.list.now in
-    let p = c.pass_lines-left.ensures in
-    let none : stack list c.args.stage.length ≡ p.passed = p.is ∙ ap (λ k. p.passed ++ stack list k) c.if-left-eq0.true ∙ append-nil p.passed in
-    let told : Unfolded m (lines c.args.book.now) c.args.rows.now c.args.count list c.args.stage list (Ok None) = ((c.if-stage-list.false, subst (AllByRecursion (LineRow m c.args.rows.now c.args.count)) (sym none) p.lines), refl) in
-    record { told = told; runs = advances_from m (lines c.args.book.now) c.args.rows.now c.args.count (numbers_stand_once c.args.book.now) list list c.args.stage (Ok None) told refl }
+    let count = c.args.stage.length in
+    let (low, le, cut, short) = c.in-Some-Some.ensures.lookup.0 in
+    let (first, listed, held, even) = c.in-Some-Some.ensures'.lookup.0 in
+    let told : Unfolded m ls rows n list c.args.stage list (Ok None) = (
+      (listed, all_lines m ls rows c.in-Some-Some.rows.now n le (cut ∙ between_from_start rows n) list count listed c.in-Some-Some.stack.now (held ∙ between_from_start list count) c.in_default-topmost.ensures),
+      refl,
+    ) in
+    record { told = told; runs = advances_from m ls rows n (found_once c.args.book.now) list list c.args.stage (Ok None) told refl }
 
-pub returns-in-Ok : goal.returns-in-Ok
-returns-in-Ok g c =
+pub returns-in_default-show_top : goal.returns-in_default-show_top
+returns-in_default-show_top g c =
     let m = g.G.Grade in
+    let ls = lines c.args.book.now in
+    let rows = c.args.rows.now in
+    let n = c.args.count in
     let list = c.args.list.now in
-    let left = c.pass_lines-left.result in
-    let p = c.pass_lines-left.ensures in
-    let some : 0 < left = let ne = c.if-left-eq0.false in omega arith in
-    let top : stack list left ≡ get_or list (left - 1) 0 ∷ stack list (left - 1) = stack_top list left some (let low = p.low in let enough = c.if-stage-list.false in omega arith) in
-    let (listed, shows) = c.in-Ok.ensures in
-    let told : Unfolded m (lines c.args.book.now) c.args.rows.now c.args.count list c.args.stage c.show_top.new.list (Ok (Some c.in-Ok.shown)) = record {
-      row = get_or list (left - 1) 0;
-      below = stack list (left - 1);
-      topmost = record { passed = p.passed; lines = p.lines; is = p.is ∙ ap (λ ks. p.passed ++ ks) top; other = p.other some };
-      listed = listed;
-      shows = shows;
-    } in
-    record { told = told; runs = advances_from m (lines c.args.book.now) c.args.rows.now c.args.count (numbers_stand_once c.args.book.now) list c.show_top.new.list c.args.stage (Ok (Some c.in-Ok.shown)) told c.show_top.auto.list }
-
-pub returns-in-Err : goal.returns-in-Err
-returns-in-Err g c =
-    let m = g.G.Grade in
-    let list = c.args.list.now in
-    let left = c.pass_lines-left.result in
-    let p = c.pass_lines-left.ensures in
-    let some : 0 < left = let ne = c.if-left-eq0.false in omega arith in
-    let top : stack list left ≡ get_or list (left - 1) 0 ∷ stack list (left - 1) = stack_top list left some (let low = p.low in let enough = c.if-stage-list.false in omega arith) in
-    let (none, same) = c.in-Err.ensures in
-    let told : Unfolded m (lines c.args.book.now) c.args.rows.now c.args.count list c.args.stage c.show_top.new.list (Err c.in-Err.refusal) = (
-      only_number c.in-Err.refusal,
+    let count = c.args.stage.length in
+    let after = c.show_top.new.list in
+    let top = c.in-Some.top in
+    let used = c.in-Some-Some.rows.now in
+    let (low, le, cut, short) = c.in-Some-Some.ensures.lookup.0 in
+    let (first, listed, held, even) = c.in-Some-Some.ensures'.lookup.0 in
+    let in_use = cut ∙ between_from_start rows n in
+    let (none, kept) = c.in_default-show_top.ensures in
+    let told : Unfolded m ls rows n list c.args.stage after (Err BrokenRow) = (
+      refl,
       (
-        inr (inr (get_or list (left - 1) 0, stack list (left - 1), record { passed = p.passed; lines = p.lines; is = p.is ∙ ap (λ ks. p.passed ++ ks) top; other = p.other some }, none)),
-        same,
+        inr (inr (
+          get_or list top 0,
+          stack list top,
+          topmost m ls rows used n le in_use list count listed c.in-Some-Some.stack.now (held ∙ between_from_start list count) top c.in-Some.ensures,
+          shows_none m ls rows used n le in_use none,
+        )),
+        kept,
       ),
     ) in
-    record { told = told; runs = advances_from m (lines c.args.book.now) c.args.rows.now c.args.count (numbers_stand_once c.args.book.now) list c.show_top.new.list c.args.stage (Err c.in-Err.refusal) told c.show_top.auto.list }
+    record { told = told; runs = advances_from m ls rows n (found_once c.args.book.now) list after c.args.stage (Err BrokenRow) told c.show_top.auto.list }
+
+pub returns : goal.returns
+returns g c =
+    let m = g.G.Grade in
+    let ls = lines c.args.book.now in
+    let rows = c.args.rows.now in
+    let n = c.args.count in
+    let list = c.args.list.now in
+    let count = c.args.stage.length in
+    let after = c.show_top.new.list in
+    let top = c.in-Some.top in
+    let used = c.in-Some-Some.rows.now in
+    let shown = c.in-Some-show_top.shown in
+    let (low, le, cut, short) = c.in-Some-Some.ensures.lookup.0 in
+    let (first, listed, held, even) = c.in-Some-Some.ensures'.lookup.0 in
+    let in_use = cut ∙ between_from_start rows n in
+    let (left, by_row) = c.in-Some-show_top.ensures in
+    let told : Unfolded m ls rows n list c.args.stage after (Ok (Some shown)) = record {
+      row = get_or list top 0;
+      below = stack list top;
+      topmost = topmost m ls rows used n le in_use list count listed c.in-Some-Some.stack.now (held ∙ between_from_start list count) top c.in-Some.ensures;
+      listed = left;
+      shows = shows m ls rows used n le in_use by_row;
+    } in
+    record { told = told; runs = advances_from m ls rows n (found_once c.args.book.now) list after c.args.stage (Ok (Some shown)) told c.show_top.auto.list }
