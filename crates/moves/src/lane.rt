@@ -3,6 +3,7 @@ ghost use Rattle.std.specs.Prelude.{◌≡◌, ◌<◌, ◌≤◌, length, take,
 ghost use Rattle.std.specs.List.{AllByRecursion};
 ghost use Rattle.moves.specs.Moving.{wagons_fit, replaced, InFront};
 
+use grade::upto::UpTo;
 use text::line::Wagons;
 
 // Whether each byte is a wagon.
@@ -11,6 +12,14 @@ pub fn are_wagons(lane: &[u8]) -> bool
     ensures each { Decides result (AllByRecursion (λ k. k ≤ 31) lane.now) }
 {
     lane.iter().all(|wagon| *wagon <= 31)
+}
+
+// The number as a byte. A cast, which the bound makes safe: no `From` can hold for the bounds up to 255 alone.
+pub(crate) fn byte<const MAX: u16>(number: UpTo<MAX>) -> u8
+    requires { MAX ≤ 255 }
+    ensures { result ≡ number.entry.value }
+{
+    number.value as u8
 }
 
 // Sets these wagons down in the place of the top and gives the lane's new length; where they do not fit, changes nothing.
@@ -26,7 +35,7 @@ pub(crate) fn set_down(buffer: &mut [u8], len: usize, wagons: Wagons) -> Option<
             Some(len - 1)
         }
         Wagons::One(top) => {
-            buffer[0] = top.value as u8;
+            buffer[0] = byte(top);
             Some(len)
         }
         Wagons::Two(top, second) => {
@@ -34,8 +43,8 @@ pub(crate) fn set_down(buffer: &mut [u8], len: usize, wagons: Wagons) -> Option<
                 return None;
             }
             buffer.copy_within(1..len, 2);
-            buffer[0] = top.value as u8;
-            buffer[1] = second.value as u8;
+            buffer[0] = byte(top);
+            buffer[1] = byte(second);
             Some(len + 1)
         }
     }

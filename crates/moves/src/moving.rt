@@ -4,7 +4,7 @@ ghost use Rattle.moves.specs.Moving.{handed, told, is_position, number_of, in_ph
 ghost use Rattle.moves.specs.Meaning.{Right};
 ghost use Rattle.moves.specs.Refusals.{refusal_number};
 
-use crate::lane::{are_wagons, set_down};
+use crate::lane::{are_wagons, byte, set_down};
 use crate::phase::{after_notice, allowed};
 use crate::refusal::MoveRefusal;
 use crate::stage::Stage;
@@ -72,13 +72,13 @@ fn carry_out(rule: &Rule, stage: Stage, buffer: &mut [u8], number: u8) -> Result
         Rule::Order(order) => {
             let length = set_down(buffer, stage.length, order.wagons).ok_or(MoveRefusal::NoRoom)?;
             Ok(Stage {
-                mode: order.to.value as u8,
+                mode: byte(order.to),
                 length,
                 ..stage
             })
         }
         Rule::Notice(notice) => Ok(Stage {
-            mode: notice.to.value as u8,
+            mode: byte(notice.to),
             phase: after_notice(stage.phase, notice),
             ..stage
         }),

@@ -44,6 +44,7 @@ fn lower_by_phase(book: &Book, least: Option<Number>, phase: u64) -> Option<Numb
     ensures { Lowered (lines book.now) (InForce phase) least result }
 {
     let end = least.map_or(64, |number| number.value);
+    // numbers, and no index: in a chain the closure that makes them would need clauses of its own
     for value in 0..end {
         let number = UpTo { value };
         if contains(phase, number) && !accepts(book, number) {

@@ -1,10 +1,10 @@
 // Listing the opened phases of a book.
-ghost use Rattle.std.specs.Prelude.{MatchOption, MatchResult};
+ghost use Rattle.std.specs.Prelude.{MatchResult};
 ghost use Rattle.model.specs.Phases.{Opened};
 ghost use Rattle.book.specs.Lines.{lines};
-ghost use Rattle.phases.specs.Table.{Holds, FirstAt, OpenedBy};
+ghost use Rattle.phases.specs.Table.{OpenedBy};
 ghost use Rattle.phases.specs.Refusals.{PhasesRefused, PhasesAllowed, phase_number, phase_place};
-ghost use Rattle.phases.specs.Growth.{Added, Lacking, Found, Went, Stuck, Started, NextBy, Followed, Closed};
+ghost use Rattle.phases.specs.Growth.{Found, Went, Stuck, Started, NextBy, Followed, Closed};
 
 use crate::missing::least_missing;
 use crate::refusal::PhaseRefusal;
@@ -12,32 +12,6 @@ use crate::table::Phases;
 use book::tables::Book;
 use moves::phase::{after_notice, allowed};
 use text::line::Rule;
-
-impl Phases {
-    // The place of a phase: the first, where it stands at several.
-    pub fn phase_index(&self, phase: u64) -> Option<usize>
-        ensures { MatchOption result (Holds self.now phase → ⊥) (FirstAt self.now phase) }
-    {
-        self.in_use().iter().position(|opened| *opened == phase)
-    }
-
-    // Puts a phase behind the others, unless it is one of them.
-    fn add(&mut self, phase: u64) -> Result<(), PhaseRefusal>
-        ensures { MatchResult result
-            (λ _. Added self.old phase self.new)
-            (λ e. Lacking self.old phase e) }
-    {
-        if self.phase_index(phase).is_some() {
-            return Ok(());
-        }
-        if self.count >= self.table.len() {
-            return Err(PhaseRefusal::TooMany);
-        }
-        self.table[self.count] = phase;
-        self.count += 1;
-        Ok(())
-    }
-}
 
 // Adds the phase of each open line.
 fn start(book: &Book, phases: &mut Phases) -> Result<(), PhaseRefusal>
