@@ -23,6 +23,7 @@ pub(crate) fn byte<const MAX: u16>(number: UpTo<MAX>) -> u8
 }
 
 // Sets these wagons down in the place of the top and gives the lane's new length; where they do not fit, changes nothing.
+// The length is a number beside the buffer, as in the C interface: the lane may grow into the bytes behind it.
 pub(crate) fn set_down(buffer: &mut [u8], len: usize, wagons: Wagons) -> Option<usize>
     requires { (0 < len) × (len ≤ length buffer.old) }
     ensures { MatchOption result

@@ -1,17 +1,9 @@
 // How notices go with phases, which are numbers of 64 bits: bit n is set where the order or notice n is in force.
 ghost use Rattle.std.specs.Prelude.{◌≡◌, Decides};
-ghost use Rattle.text.specs.Phases.{has};
 ghost use Rattle.model.specs.Phases.{Allows, without, after};
 
 use text::line::{NoticeLine, Number};
 use text::phase::{bit, contains};
-
-// Whether the number is in force.
-pub fn in_force(phase: u64, number: Number) -> bool
-    ensures { result ≡ has phase number.value }
-{
-    contains(phase, number)
-}
 
 // Whether the notice can be carried out in the phase.
 pub fn allowed(notice: &NoticeLine, phase: u64) -> bool
