@@ -13,6 +13,9 @@ use book::tables::Book;
 use moves::phase::{after_notice, allowed};
 use text::line::Rule;
 
+// That the phases so far are `Found` is asked here, and below: a phase can be opened in many ways, so a ghost field of a struct
+// would hold that truncated only, and each use would have to bring it back.
+
 // Adds the phase of each open line.
 fn start(book: &Book, phases: &mut Phases) -> Result<(), PhaseRefusal>
     requires { Found (lines book.now) phases.old }
