@@ -64,9 +64,9 @@ impl LineText {
         ensures few { length self.new ≡ length self.old + length word.now }
         ensures text { self.new ≡ self.old ++ word.now }
     {
-        for b in word {
-            self.byte(*b);
-        }
+        let end = self.len + word.len();
+        self.bytes[self.len..end].copy_from_slice(word);
+        self.len = end;
     }
 
     // Puts the digits of a number.
@@ -124,6 +124,7 @@ impl LineText {
         ensures few { length self.new ≤ length self.old + 384 }
         ensures text { self.new ≡ self.old ++ flat_map blank_number (members phase) }
     {
+        // these are the numbers themselves, and no indices
         for n in 0..64 {
             if contains(phase, Number { value: n }) {
                 self.blank_number(n);
