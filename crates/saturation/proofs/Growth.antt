@@ -373,15 +373,3 @@ slices_then one two = record { rows = two.rows ∙ one.rows; waiting = two.waiti
 -- at the exit of a `?`
 pub at_none : {X : Type 0} (P : Type 0) (Q : X → Type 0) (o : Option X) → o ≡ None → P → MatchOption o P Q
 at_none P Q o e p = subst (λ x. MatchOption x P Q) (sym e) p
-
--- .. and past it
-pub at_some : {X : Type 0} (P : Type 0) (Q : X → Type 0) (o : Option X) (x : X) → o ≡ Some x → MatchOption o P Q → Q x
-at_some P Q o x e h = subst (λ o. MatchOption o P Q) e h
-
--- what holds below i, and at i, holds below i + 1
-pub below_next : (P : ℕ → Type 0) (i : ℕ) → ((k : ℕ) → k < i → P k) → P i → (k : ℕ) → k < i + 1 → P k
-below_next P i below here k h = from (dec_lt k i)
-  where
-    from : Dec (k < i) → P k
-    from (yes before) = below k before
-    from (no not_before) = let e : k ≡ i = omega arith in subst P (sym e) here

@@ -16,7 +16,7 @@ use crate::work::Work;
 use grade::grade::Grade;
 use text::line::{NoticeLine, OrderLine, Rule, Wagons};
 
-impl<'a, G: Grade> Work<'a, G> {
+impl<G: Grade> Work<'_, G> {
     // Tries the order, which lays this wagon down, on the row settled last.
     fn attempt_one(
         &mut self,
@@ -41,7 +41,8 @@ impl<'a, G: Grade> Work<'a, G> {
         }
     }
 
-    // Tries the order, which lays these wagons down, on two settled rows, one of which was settled last.
+    // Tries the order, which lays these wagons down, on two settled rows, one of which was settled last. It shares its last two steps
+    // with `attempt_one`, `starts` and `offer`; the grades, the places and what the row leads to are others.
     fn attempt_two(
         &mut self,
         setting: &Setting,

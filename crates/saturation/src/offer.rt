@@ -34,7 +34,7 @@ fn requeue<G: Grade>(waiting: &mut [Waiting<G>], count: usize, old: Waiting<G>, 
     }
 }
 
-impl<'a, G: Grade> Work<'a, G> {
+impl<G: Grade> Work<'_, G> {
     // The place of the row with the key of `wanted`.
     fn find(&self, wanted: &TableRow<G>) -> Option<usize>
         requires { self.now.found ≤ length self.now.rows.now }

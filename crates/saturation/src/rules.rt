@@ -1,17 +1,27 @@
 // The rows that lines, orders and notices give.
-ghost use Rattle.std.specs.Prelude.{◌≡◌, ℕ, ◌<◌, length, Decides, MatchOption};
+ghost use Rattle.std.specs.Prelude.{◌≡◌, ℕ, ◌<◌, ◌≤◌, length, Decides, MatchOption};
 ghost use Rattle.rowtable.specs.declared.row.TableState.TheVariants.{Node, Head};
 ghost use Rattle.saturation.specs.Work.{row_by_order, row_by_notice, row_by_line, Starts, Goes, Noticed};
 
 use crate::premise::Premise;
 use grade::grade::Grade;
+use grade::upto::UpTo;
 use moves::phase::{after_notice, allowed};
 use rowtable::row::{Reason, TableRow, TableState};
 use text::line::{LinkLine, NoticeLine, OrderLine, WatchLine};
 use text::phase::contains;
 
-// The rank of a row that waits. It is a number and no Option: ranks are compared as plain numbers, and a blank row has 0 everywhere.
+// The rank of a row that waits: no row has so high a one. It is a number and no Option, since ranks are compared as plain numbers and
+// a blank row has 0 everywhere.
 const UNRANKED: usize = usize::MAX;
+
+// A number of a line, as the table holds it. A cast, which the bound makes safe: no `From` can hold for the bounds up to 255 alone.
+fn byte<const MAX: u16>(number: UpTo<MAX>) -> u8
+    requires { MAX ≤ 255 }
+    ensures { result ≡ number.entry.value }
+{
+    number.value as u8
+}
 
 pub(crate) fn order_row<G: Grade>(
     order: &OrderLine,
@@ -24,12 +34,12 @@ pub(crate) fn order_row<G: Grade>(
     ensures { result ≡ row_by_order G.Grade.own order.now place to parts a b }
 {
     TableRow {
-        from: TableState::Head(order.mode.get() as u8, place),
-        wagon: order.wagon.get() as u8,
+        from: TableState::Head(byte(order.mode), place),
+        wagon: byte(order.wagon),
         to,
         grade: G::of_toll(order.toll).joined(parts),
         rank: UNRANKED,
-        reason: Reason::Order(order.number.get() as u8, a, b),
+        reason: Reason::Order(byte(order.number), a, b),
     }
 }
 
@@ -42,12 +52,12 @@ pub(crate) fn notice_row<G: Grade>(
     ensures { result ≡ row_by_notice G.Grade.own notice.now place after.now.row after.now.place }
 {
     TableRow {
-        from: TableState::Head(notice.mode.get() as u8, place as u8),
+        from: TableState::Head(byte(notice.mode), place as u8),
         wagon: after.row.wagon,
         to: after.row.to,
         grade: G::of_toll(notice.toll).joined(after.row.grade),
         rank: UNRANKED,
-        reason: Reason::Notice(notice.number.get() as u8, after.place),
+        reason: Reason::Notice(byte(notice.number), after.place),
     }
 }
 
@@ -68,9 +78,9 @@ pub(crate) fn link_row<G: Grade>(link: &LinkLine) -> TableRow<G>
     ensures { result ≡ row_by_line G.Grade.own (Node link.now.node.value) link.now.wagon.value (Node link.now.to.value) }
 {
     line_row(
-        TableState::Node(link.node.get() as u8),
-        link.wagon.get() as u8,
-        TableState::Node(link.to.get() as u8),
+        TableState::Node(byte(link.node)),
+        byte(link.wagon),
+        TableState::Node(byte(link.to)),
     )
 }
 
@@ -78,12 +88,8 @@ pub(crate) fn watch_row<G: Grade>(watch: &WatchLine, place: usize) -> TableRow<G
     requires { place < 256 }
     ensures { result ≡ row_by_line G.Grade.own (Head watch.now.mode.value place) watch.now.wagon.value (Node watch.now.node.value) }
 {
-    let from = TableState::Head(watch.mode.get() as u8, place as u8);
-    line_row(
-        from,
-        watch.wagon.get() as u8,
-        TableState::Node(watch.node.get() as u8),
-    )
+    let from = TableState::Head(byte(watch.mode), place as u8);
+    line_row(from, byte(watch.wagon), TableState::Node(byte(watch.node)))
 }
 
 // The row of an order that lays nothing down.
@@ -91,7 +97,7 @@ pub(crate) fn lone_row<G: Grade>(order: &OrderLine, place: usize) -> TableRow<G>
     requires { place < 256 }
     ensures { result ≡ row_by_order G.Grade.own order.now place (Head order.now.to.value place) G.Grade.best 0 0 }
 {
-    let to = TableState::Head(order.to.get() as u8, place as u8);
+    let to = TableState::Head(byte(order.to), place as u8);
     order_row(order, place as u8, to, G::best_grade(), 0, 0)
 }
 

@@ -29,7 +29,7 @@ fn clear<G: Grade>(rows: &mut [TableRow<G>])
     }
 }
 
-impl<'a, G: Grade> Work<'a, G> {
+impl<G: Grade> Work<'_, G> {
     // Fills the blank row table; None where the rows outnumber the places.
     fn fill(&mut self, setting: &Setting) -> Option<()>
         requires table { TableOf G.Grade.own setting.now self.old }

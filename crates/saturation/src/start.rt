@@ -13,7 +13,7 @@ use grade::grade::Grade;
 use text::line::{OrderLine, Rule, Wagons};
 use text::phase::contains;
 
-impl<'a, G: Grade> Work<'a, G> {
+impl<G: Grade> Work<'_, G> {
     // Lets the rows of all link lines wait.
     fn begin_links(&mut self, setting: &Setting) -> Option<()>
         requires table { TableOf G.Grade.own setting.now self.old }

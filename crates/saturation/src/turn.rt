@@ -8,7 +8,7 @@ use crate::setting::Setting;
 use crate::work::Work;
 use grade::grade::Grade;
 
-impl<'a, G: Grade> Work<'a, G> {
+impl<G: Grade> Work<'_, G> {
     // Takes the best entry out of the queue and gives its row the next rank.
     fn settle(&mut self, setting: &Setting) -> Option<Premise<G>>
         requires waits { setting.now.settled < self.old.found }
@@ -48,6 +48,7 @@ impl<'a, G: Grade> Work<'a, G> {
         ensures turned { TurnedOf G.Grade.own setting.now self.old self.new.found self.new result }
     {
         let mut settled = setting.settled;
+        // no range: a turn may add rows
         while settled < self.found {
             let before = Setting {
                 book: setting.book,

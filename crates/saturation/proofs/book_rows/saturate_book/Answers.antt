@@ -1,6 +1,6 @@
 use Rattle.std.proofs.Common.{arith}
 use Rattle.std.proofs.lemmas.List.{length-take}
-use Rattle.saturation.proofs.Growth.{at_some}
+use Rattle.std.proofs.lemmas.Option.{MatchOption-at_some}
 use Rattle.saturation.proofs.Finishing.{phases_listed}
 use Rattle.saturation.proofs.Finished.{complete_finished}
 use Rattle.saturation.proofs.book_rows.saturate_book.Goals as goal
@@ -13,4 +13,4 @@ saturate-requires g c =
     phases_listed p.table p.count (omega arith) c.in_ok-phases.ensures.1.filled
 
 pub returns-clause-told : goal.returns-clause-told
-returns-clause-told g c = record { allowed = c.in_ok-phases.ensures.0; opened = c.in_ok-phases.ensures.1; finished = complete_finished _ _ _ _ _ _ (at_some _ _ c.saturate.result c.in_ok-rows.rows c.in_ok-rows.ensures.ok_part c.saturate.ensures) }
+returns-clause-told g c = record { allowed = c.in_ok-phases.ensures.0; opened = c.in_ok-phases.ensures.1; finished = complete_finished _ _ _ _ _ _ (MatchOption-at_some _ _ c.in_ok-rows.rows c.in_ok-rows.ensures.ok_part c.saturate.ensures) }

@@ -1,9 +1,9 @@
-use Rattle.std.proofs.Common.{◌≡◌, get_or, refl, subst, arith}
+use Rattle.std.proofs.Common.{below_more, ◌≡◌, get_or, refl, subst, arith}
 use Rattle.book.specs.Tables.{blank_link}
 use Rattle.rowtable.specs.declared.row.TableState.TheVariants.{Node}
 use Rattle.saturation.specs.Work.{row_by_line}
 use Rattle.saturation.specs.Start.{LinkBegun}
-use Rattle.saturation.proofs.Growth.{at_none, below_next, slices_then}
+use Rattle.saturation.proofs.Growth.{at_none, slices_then}
 use Rattle.saturation.proofs.Brings.{offered_on, offered_full}
 use Rattle.saturation.proofs.Begins.{item_read, begins_link}
 use Rattle.saturation.proofs.work.Work.begin_links.Goals as goal
@@ -33,5 +33,5 @@ loop-link-preserved g c =
     let new = begins_link w.table.lawful Fs b k v low refl in
     let now = c.offer.new.self in (
       slices_then slices c.in_ok-offer.ensures.slices,
-      offered_on w is new (λ later a covers. below_next (λ j. LinkBegun m Fs b j now.rows.now now.found) k (λ j lt. later _ _ (a j lt)) covers) c.in_ok-offer.ensures.ends,
+      offered_on w is new (λ later a covers. below_more (λ j. LinkBegun m Fs b j now.rows.now now.found) k (λ j lt. later _ _ (a j lt)) covers) c.in_ok-offer.ensures.ends,
     )

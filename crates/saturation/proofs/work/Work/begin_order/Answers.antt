@@ -1,4 +1,4 @@
-use Rattle.std.proofs.Common.{◌≡◌, ◌+◌, ◌<◌, ℕ, map, sym, ap, ◌∙◌, subst, arith, get_or}
+use Rattle.std.proofs.Common.{below_more, ◌≡◌, ◌+◌, ◌<◌, ℕ, map, sym, ap, ◌∙◌, subst, arith, get_or}
 use mathlib.Core.Bool.{false≢true}
 use Rattle.text.specs.Forms.{listed}
 use Rattle.book.specs.Lines.{lines}
@@ -6,7 +6,7 @@ use Rattle.rows.specs.Rows.{order_row, head}
 use Rattle.saturation.specs.Work.{Covers, Begins}
 use Rattle.saturation.specs.AtHand.{SameSlices, WentOf}
 use Rattle.saturation.specs.Start.{OrderBegun}
-use Rattle.saturation.proofs.Growth.{at_none, below_next, slices_then, went_so}
+use Rattle.saturation.proofs.Growth.{at_none, slices_then, went_so}
 use Rattle.saturation.proofs.Brings.{offered_on, offered_full}
 use Rattle.saturation.proofs.Begins.{begins_order}
 use Rattle.saturation.proofs.work.Work.begin_order.Goals as goal
@@ -35,12 +35,12 @@ loop-place-preserved g c =
           subst (λ v. SameSlices c.args.self.now v × WentOf m e (Begins m Fs (lines b)) c.args.self.now v ((j : ℕ) → j < i + 1 → OrderBegun m Fs o j v.rows.now v.found)) (sym x.self-is) (
             slices_then slices x.in_ok-offer.ensures.slices,
             offered_on w x.lone_row.ensures new
-                (λ later a covers. below_next (λ j. OrderBegun m Fs o j now.rows.now now.found) i (λ j lt lone in_force. later _ _ (a j lt lone in_force))
+                (λ later a covers. below_more (λ j. OrderBegun m Fs o j now.rows.now now.found) i (λ j lt lone in_force. later _ _ (a j lt lone in_force))
                 (λ lone in_force. subst (Covers m Fs now.rows.now now.found (order_row o (get_or Fs i 0) (head o.to.value (get_or Fs i 0)))) (w.table.lawful.unitr (m.priced o.toll)) covers))
                 x.in_ok-offer.ensures.ends,
           )
       | else-contains x ↦
           let now = c.loop-place.self in
           subst (λ v. SameSlices c.args.self.now v × WentOf m e (Begins m Fs (lines b)) c.args.self.now v ((j : ℕ) → j < i + 1 → OrderBegun m Fs o j v.rows.now v.found)) (sym x.self-is)
-          (slices, went_so (λ a. below_next (λ j. OrderBegun m Fs o j now.rows.now now.found) i a (λ lone in_force. absurd (false≢true (x.if-contains.ensures ∙ in_force)))) w)
+          (slices, went_so (λ a. below_more (λ j. OrderBegun m Fs o j now.rows.now now.found) i a (λ lone in_force. absurd (false≢true (x.if-contains.ensures ∙ in_force)))) w)
     ]

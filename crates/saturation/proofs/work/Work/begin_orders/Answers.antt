@@ -1,4 +1,4 @@
-use Rattle.std.proofs.Common.{◌≡◌, ◌+◌, ◌<◌, ℕ, Some, None, rules, get_or, sym, ◌∙◌, subst, arith}
+use Rattle.std.proofs.Common.{below_more, ◌≡◌, ◌+◌, ◌<◌, ℕ, Some, None, rules, get_or, sym, ◌∙◌, subst, arith}
 use Rattle.std.proofs.lemmas.List.{get_or_default}
 use Rattle.text.specs.declared.line.Rule.TheVariants as rule
 use Rattle.book.specs.Lines.{lines}
@@ -7,7 +7,7 @@ use Rattle.saturation.specs.declared.work.Work.{Work}
 use Rattle.saturation.specs.AtHand.{SameSlices, WentOf}
 use Rattle.saturation.specs.Work.{Begins}
 use Rattle.saturation.specs.Start.{RuleBegun}
-use Rattle.saturation.proofs.Growth.{at_none, below_next, slices_then, went_so, went_on, full_on, covers_later}
+use Rattle.saturation.proofs.Growth.{at_none, slices_then, went_so, went_on, full_on, covers_later}
 use Rattle.saturation.proofs.Begins.{rule_other, rule_lone}
 use Rattle.saturation.proofs.work.Work.begin_orders.Goals as goal
 use Rattle.saturation.proofs.work.Work.begin_orders.Goals.{in-Some-Order+in_ok-begin_order-in-Some-Order, in-Some-Notice, in-None}
@@ -45,7 +45,7 @@ loop-rule-preserved g c =
           subst P (sym y.self-is) (
             slices_then slices y.in_ok-begin_order-in-Some-Order.ensures.slices,
             went_on w (λ r h. h)
-                (λ grown a begun. below_next (λ j. RuleBegun m Fs (get_or b.rules j None) now.rows.now now.found) k
+                (λ grown a begun. below_more (λ j. RuleBegun m Fs (get_or b.rules j None) now.rows.now now.found) k
                 (λ j lt o is i low lone in_force. covers_later _ _ w.table.lawful grown (a j lt o is i low lone in_force))
                 (rule_lone m Fs f now.rows.now now.found y.in-Some-Order.order (read ∙ is) begun))
                 y.in_ok-begin_order-in-Some-Order.ensures.ends,
@@ -54,13 +54,13 @@ loop-rule-preserved g c =
           let is : get_or b.rules k c.rule-item.result ≡ Some (rule.Notice y.in-Some-Notice.field-0-0) = search rules in
           subst P (sym y.self-is) (
             slices,
-            went_so (λ a. below_next (λ j. RuleBegun m Fs (get_or b.rules j None) mid.rows.now mid.found) k a
+            went_so (λ a. below_more (λ j. RuleBegun m Fs (get_or b.rules j None) mid.rows.now mid.found) k a
                 (rule_other m Fs f mid.rows.now mid.found (λ o order. let not_both = read ∙ is in let z : ◌≡◌ {A = ℕ} 0 1 = cc in omega arith))) w,
           )
       | in-None y ↦
           subst P (sym y.self-is) (
             slices,
-            went_so (λ a. below_next (λ j. RuleBegun m Fs (get_or b.rules j None) mid.rows.now mid.found) k a
+            went_so (λ a. below_more (λ j. RuleBegun m Fs (get_or b.rules j None) mid.rows.now mid.found) k a
                 (rule_other m Fs f mid.rows.now mid.found (λ o order. let not_both = read ∙ y.in-None.is in let z : ◌≡◌ {A = ℕ} 0 1 = cc in omega arith))) w,
           )
     ]

@@ -1,9 +1,9 @@
-use Rattle.std.proofs.Common.{◌≡◌, ◌<◌, ℕ, get_or, length, refl, subst, arith}
+use Rattle.std.proofs.Common.{below_more, ◌≡◌, ◌<◌, ℕ, get_or, length, refl, subst, arith}
 use Rattle.book.specs.Tables.{blank_watch}
 use Rattle.rowtable.specs.declared.row.TableState.TheVariants.{Node, Head}
 use Rattle.saturation.specs.Work.{row_by_line}
 use Rattle.saturation.specs.Start.{WatchBegun}
-use Rattle.saturation.proofs.Growth.{at_none, below_next, slices_then, went_so}
+use Rattle.saturation.proofs.Growth.{at_none, slices_then, went_so}
 use Rattle.saturation.proofs.Brings.{offered_on, offered_full}
 use Rattle.saturation.proofs.Begins.{item_read, begins_watch}
 use Rattle.saturation.proofs.work.Work.begin_watches.Goals as goal
@@ -39,7 +39,7 @@ loop-place-preserved g c =
     let new = begins_watch w.table.lawful Fs b k v low refl i (omega arith) (w.table.phases.different.each i (omega arith)) in
     let now = c.offer.new.self in (
       slices_then slices c.in_ok-offer.ensures.slices,
-      offered_on w is new (λ later a covers. ((λ j lt h low. later _ _ (a.0 j lt h low)), below_next (λ j. WatchBegun m Fs b k j now.rows.now now.found) i (λ j lt. later _ _ (a.1 j lt)) covers)) c.in_ok-offer.ensures.ends,
+      offered_on w is new (λ later a covers. ((λ j lt h low. later _ _ (a.0 j lt h low)), below_more (λ j. WatchBegun m Fs b k j now.rows.now now.found) i (λ j lt. later _ _ (a.1 j lt)) covers)) c.in_ok-offer.ensures.ends,
     )
 
 pub loop-watch-preserved : goal.loop-watch-preserved
@@ -49,4 +49,4 @@ loop-watch-preserved g c =
     let Fs = c.args.setting.now.phases.now in
     let b = c.args.setting.now.book.now in
     let now = c.loop-place.self in
-    (slices, went_so (λ a. below_next (λ j. (i : ℕ) → i < length Fs → WatchBegun m Fs b j i now.rows.now now.found) c.loop-watch.watch-index a.0 (λ i lt. a.1 i (omega arith))) w)
+    (slices, went_so (λ a. below_more (λ j. (i : ℕ) → i < length Fs → WatchBegun m Fs b j i now.rows.now now.found) c.loop-watch.watch-index a.0 (λ i lt. a.1 i (omega arith))) w)

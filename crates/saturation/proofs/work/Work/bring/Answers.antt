@@ -1,4 +1,4 @@
-use Rattle.std.proofs.Common.{◌≡◌, ◌+◌, ◌<◌, ℕ, Some, None, rules, get_or, sym, ◌∙◌, subst, arith}
+use Rattle.std.proofs.Common.{below_more, ◌≡◌, ◌+◌, ◌<◌, ℕ, Some, None, rules, get_or, sym, ◌∙◌, subst, arith}
 use Rattle.std.proofs.lemmas.List.{get_or_default}
 use Rattle.text.specs.declared.line.Rule.TheVariants as rule
 use Rattle.book.specs.Lines.{lines}
@@ -7,7 +7,7 @@ use Rattle.rowtable.specs.Reasons.{SettledAt}
 use Rattle.saturation.specs.declared.work.Work.{Work}
 use Rattle.saturation.specs.AtHand.{SameSlices, WentOf}
 use Rattle.saturation.specs.Work.{Brings, TriedRule}
-use Rattle.saturation.proofs.Growth.{at_none, below_next, slices_then, went_so, went_on, full_on}
+use Rattle.saturation.proofs.Growth.{at_none, slices_then, went_so, went_on, full_on}
 use Rattle.saturation.proofs.Brings.{brings_back, last_on, rule_none, rule_order, rule_notice, rule_later, rule_from}
 use Rattle.saturation.proofs.work.Work.bring.Goals as goal
 use Rattle.saturation.proofs.work.Work.bring.Goals.{in-Some-Order+in_ok-bring_order-in-Some-Order, in-Some-Notice+in_ok-bring_notice-in-Some-Notice, in-None}
@@ -70,7 +70,7 @@ loop-rule-preserved g c =
           subst P (sym y.self-is) (
             slices_then slices y.in_ok-bring_order-in-Some-Order.ensures.slices,
             went_on w (brings_back x w.grown)
-                (λ grown a tried. below_next (λ j. TriedRule m Fs (get_or b.rules j None) At x now.rows.now now.found) k (λ j lt. rule_later m Fs x w.table.lawful grown (get_or b.rules j None) At (a j lt))
+                (λ grown a tried. below_more (λ j. TriedRule m Fs (get_or b.rules j None) At x now.rows.now now.found) k (λ j lt. rule_later m Fs x w.table.lawful grown (get_or b.rules j None) At (a j lt))
                 (rule_from m Fs x {At = AtMid} w.grown.kept now.rows.now now.found f (rule_order m Fs x f AtMid now.rows.now now.found y.in-Some-Order.order (read ∙ is) tried)))
                 y.in_ok-bring_order-in-Some-Order.ensures.ends,
           )
@@ -80,10 +80,10 @@ loop-rule-preserved g c =
           subst P (sym y.self-is) (
             slices_then slices y.in_ok-bring_notice-in-Some-Notice.ensures.slices,
             went_on w (brings_back x w.grown)
-                (λ grown a tried. below_next (λ j. TriedRule m Fs (get_or b.rules j None) At x now.rows.now now.found) k (λ j lt. rule_later m Fs x w.table.lawful grown (get_or b.rules j None) At (a j lt))
+                (λ grown a tried. below_more (λ j. TriedRule m Fs (get_or b.rules j None) At x now.rows.now now.found) k (λ j lt. rule_later m Fs x w.table.lawful grown (get_or b.rules j None) At (a j lt))
                 (rule_notice m Fs x f At now.rows.now now.found y.in-Some-Notice.notice (read ∙ is) tried))
                 y.in_ok-bring_notice-in-Some-Notice.ensures.ends,
           )
       | in-None y ↦
-          subst P (sym y.self-is) (slices, went_so (λ a. below_next (λ j. TriedRule m Fs (get_or b.rules j None) At x mid.rows.now mid.found) k a (rule_none m Fs x f At mid.rows.now mid.found (read ∙ y.in-None.is))) w)
+          subst P (sym y.self-is) (slices, went_so (λ a. below_more (λ j. TriedRule m Fs (get_or b.rules j None) At x mid.rows.now mid.found) k a (rule_none m Fs x f At mid.rows.now mid.found (read ∙ y.in-None.is))) w)
     ]

@@ -1,9 +1,9 @@
-use Rattle.std.proofs.Common.{◌+◌, ◌<◌, ℕ, sym, ◌∙◌, subst, arith}
+use Rattle.std.proofs.Common.{below_more, ◌+◌, ◌<◌, ℕ, sym, ◌∙◌, subst, arith}
 use mathlib.Core.Bool.{false≢true}
 use Rattle.book.specs.Lines.{lines}
 use Rattle.saturation.specs.AtHand.{SameSlices, WentOf}
 use Rattle.saturation.specs.Work.{Brings, TriedNotice}
-use Rattle.saturation.proofs.Growth.{at_none, below_next, slices_then, went_so}
+use Rattle.saturation.proofs.Growth.{at_none, slices_then, went_so}
 use Rattle.saturation.proofs.Brings.{offered_on, offered_full, brings_notice, brings_back, last_on}
 use Rattle.saturation.proofs.work.Work.bring_notice.Goals as goal
 use Rattle.saturation.proofs.work.Work.bring_notice.Goals.{then-noticed+in_ok-offer, else-noticed}
@@ -32,11 +32,11 @@ loop-place-preserved g c =
           subst (λ v. SameSlices old v × WentOf m e (Brings m Fs (lines e.book.now) old.rows.now e.settled old.found x.row) old v ((j : ℕ) → j < i + 1 → TriedNotice m Fs d x.row j v.rows.now v.found)) (sym y.self-is) (
             slices_then slices y.in_ok-offer.ensures.slices,
             offered_on w y.notice_row.ensures new
-                (λ later a covers. below_next (λ j. TriedNotice m Fs d x.row j now.rows.now now.found) i (λ j lt h. later _ _ (a j lt h)) (λ h. covers))
+                (λ later a covers. below_more (λ j. TriedNotice m Fs d x.row j now.rows.now now.found) i (λ j lt h. later _ _ (a j lt h)) (λ h. covers))
                 y.in_ok-offer.ensures.ends,
           )
       | else-noticed y ↦
           let now = c.loop-place.self in
           subst (λ v. SameSlices old v × WentOf m e (Brings m Fs (lines e.book.now) old.rows.now e.settled old.found x.row) old v ((j : ℕ) → j < i + 1 → TriedNotice m Fs d x.row j v.rows.now v.found)) (sym y.self-is)
-          (slices, went_so (λ a. below_next (λ j. TriedNotice m Fs d x.row j now.rows.now now.found) i a (λ h. absurd (false≢true (sym y.if-noticed.false ∙ c.noticed.ensures.1 h)))) w)
+          (slices, went_so (λ a. below_more (λ j. TriedNotice m Fs d x.row j now.rows.now now.found) i a (λ h. absurd (false≢true (sym y.if-noticed.false ∙ c.noticed.ensures.1 h)))) w)
     ]

@@ -1,6 +1,6 @@
-use Rattle.std.proofs.Common.{◌∙◌, refl, arith}
+use Rattle.std.proofs.Common.{below_more, ◌∙◌, refl, arith}
 use Rattle.saturation.specs.Work.{TriedPairAt}
-use Rattle.saturation.proofs.Growth.{went_none, went_so, went_on, full_on, covers_later, at_none, below_next, slices_then}
+use Rattle.saturation.proofs.Growth.{went_none, went_so, went_on, full_on, covers_later, at_none, slices_then}
 use Rattle.saturation.proofs.Brings.{brings_back, last_on}
 use Rattle.saturation.proofs.work.Work.bring_pairs.Goals as goal
 
@@ -29,7 +29,7 @@ loop-place-preserved g c =
     let now = c.bring_pair.new.self in (
       slices_then slices c.in_ok-bring_pair.ensures.slices,
       went_on w (brings_back c.args.last.now.row w.grown)
-          (λ grown a b. below_next (λ j. TriedPairAt m c.args.setting.now.phases.now p.line p.first p.second c.args.last.now.row old.rows.now old.found c.args.setting.now.settled j now.rows.now now.found) c.loop-place.place
+          (λ grown a b. below_more (λ j. TriedPairAt m c.args.setting.now.phases.now p.line p.first p.second c.args.last.now.row old.rows.now old.found c.args.setting.now.settled j now.rows.now now.found) c.loop-place.place
           (λ j lt y h. ((λ i st go. covers_later _ _ w.table.lawful grown ((a j lt y h).0 i st go)), (λ i st go. covers_later _ _ w.table.lawful grown ((a j lt y h).1 i st go))))
           (λ y h. b y (w.grown.kept c.loop-place.place y h)))
           c.in_ok-bring_pair.ensures.ends,
