@@ -2,31 +2,21 @@
 use Rattle.std.proofs.Common.{◌≡◌, ℕ, zero, suc, ◌+◌, ◌<◌, ◌≤◌, true, false, cond, ◌||◌, eqb, ltb, ◌⊎◌, List, [], ◌∷◌, ◌++◌, map, length, get_or, sym, refl, ap, ◌∙◌, subst, inl, inr, ⊎_elim, arith}
 use mathlib.Core.Logic.{∥∥₁_elim}
 use native.Mathlib.Bridge.{le_prop}
-use Rattle.std.specs.List.{ContainsAt as Has, AllByRecursion}
+use Rattle.std.specs.List.{ContainsAt as Has, AllByRecursion, AllByRecursion-prop}
 use Rattle.std.proofs.lemmas.Bool.{ltb-true, ltb-false, lt-ltb, le-ltb, eqb-true, eqb-false, eq-eqb, ne_eqb, cases_lt, cases_eq, cond-true, cond-false, cond_both, or_parts, or_from, or_cases, or_left, or_right, false≢true}
 use Rattle.std.proofs.ByRecursion.{All-weaker, all-has, All-append, All-map, All-get_or}
 use Rattle.book.specs.Order.{Ascending, among, put}
 
 -- ---- heads and tails
 
-head_of : {X : Type 0} → X → List X → X
-head_of d [] = d
-head_of d (x ∷ xs) = x
-
-tail_of : {X : Type 0} → List X → List X
-tail_of [] = []
-tail_of (x ∷ xs) = xs
-
 pub head_same : {X : Type 0} (x y : X) (xs ys : List X) → x ∷ xs ≡ y ∷ ys → x ≡ y
-unfolding head_of
-head_same x y xs ys e = ap (head_of x) e
+head_same x y xs ys e = cc
 
 pub tail_same : {X : Type 0} (x y : X) (xs ys : List X) → x ∷ xs ≡ y ∷ ys → xs ≡ ys
-unfolding tail_of
-tail_same x y xs ys e = ap tail_of e
+tail_same x y xs ys e = cc
 
 pub no_cons : {X : Type 0} (x : X) (xs : List X) → x ∷ xs ≡ [] → ⊥
-no_cons x xs e = let n = ap length e in omega arith
+no_cons x xs e = cc
 
 -- ---- members
 
@@ -46,18 +36,14 @@ has_cases {X} y xs x h = at h.0 h.1 h.2
     at zero lt is = inl (is x)
     at (suc k) lt is = inr (k, omega arith, is)
 
-all_prop : {X : Type 0} (P : X → Type 0) → ((x : X) → IsProp (P x)) → (xs : List X) → IsProp (AllByRecursion P xs)
-all_prop P one [] p q = refl
-all_prop P one (x ∷ xs) p q = λ i. (one x p.0 q.0 i, all_prop P one xs p.1 q.1 i)
-
 ascending_prop : {X : Type 0} (rank : X → ℕ) (xs : List X) → IsProp (Ascending rank xs)
 ascending_prop rank [] p q = refl
 ascending_prop rank (x ∷ xs) p q =
-    λ i. (all_prop (λ y. rank x < rank y) (λ y. le_prop) xs p.0 q.0 i, ascending_prop rank xs p.1 q.1 i)
+    λ i. (AllByRecursion-prop (λ y. rank x < rank y) (λ y. le_prop) xs p.0 q.0 i, ascending_prop rank xs p.1 q.1 i)
 
 -- out of a ghost field
 pub all_told : {X : Type 0} (P : X → Type 0) → ((x : X) → IsProp (P x)) → (xs : List X) → ∥ AllByRecursion P xs ∥₁ → AllByRecursion P xs
-all_told P one xs h = ∥∥₁_elim h (all_prop P one xs) (λ p. p)
+all_told P one xs h = ∥∥₁_elim h (AllByRecursion-prop P one xs) (λ p. p)
 
 pub ascending_told : {X : Type 0} (rank : X → ℕ) (xs : List X) → ∥ Ascending rank xs ∥₁ → Ascending rank xs
 ascending_told rank xs h = ∥∥₁_elim h (ascending_prop rank xs) (λ p. p)

@@ -24,7 +24,7 @@ use Rattle.book.proofs.Joining.{went_in}
 
 -- ---- cutting
 
-cut_line : (s t : List ℕ) → AllByRecursion (λ b. b ≡ 10 → ⊥) s → split (s ++ 10 ∷ t) ≡ s ∷ split t
+pub cut_line : (s t : List ℕ) → AllByRecursion (λ b. b ≡ 10 → ⊥) s → split (s ++ 10 ∷ t) ≡ s ∷ split t
 cut_line [] t h = refl
 cut_line (b ∷ s) t h =
     cond-false (eqb b 10) ([] ∷ split (s ++ 10 ∷ t)) (before_first b (split (s ++ 10 ∷ t))) (ne_eqb b 10 h.0) ∙ ap (before_first b) (cut_line s t h.1)

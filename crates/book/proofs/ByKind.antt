@@ -2,6 +2,8 @@
 use Rattle.std.proofs.Common.{◌≡◌, ℕ, ◌<◌, ◌≤◌, Bool, true, false, ◌||◌, List, [], ◌∷◌, ◌++◌, length, filter, sym, refl, ap, ◌∙◌, subst, append_assoc, append-nil, arith}
 use Rattle.std.specs.List.{flat_map, AllByRecursion}
 use Rattle.std.proofs.lemmas.Bool.{eq-eqb, ne_eqb, cond-true, cond-false}
+use Rattle.std.proofs.Math.Bool.{or-false}
+use Rattle.std.proofs.lemmas.Grind.{flat_map-append}
 use Rattle.std.proofs.lemmas.List.Elements.{filter-append}
 use Rattle.std.proofs.ByRecursion.{All-weaker, All-append}
 use Rattle.text.specs.declared.line.Line.{Line}
@@ -82,10 +84,6 @@ starts_behind links = omega arith
 starts_behind ends = omega arith
 starts_behind bares = tt
 
-pub joined_append : {X Y : Type 0} (f : X → List Y) (xs ys : List X) → flat_map f (xs ++ ys) ≡ flat_map f xs ++ flat_map f ys
-joined_append f [] ys = refl
-joined_append f (x ∷ xs) ys = ap (λ l. f x ++ l) (joined_append f xs ys) ∙ sym (append_assoc (f x) (flat_map f xs) (flat_map f ys))
-
 span_some : (k : Kind) → 0 < span k
 span_some rules = omega arith
 span_some opens = omega arith
@@ -102,15 +100,11 @@ kept_all : (p : Line → Bool) (ls : List Line) → AllByRecursion (λ l. p l �
 kept_all p [] h = refl
 kept_all p (l ∷ ls) h = cond-true (p l) (l ∷ filter p ls) (filter p ls) h.0 ∙ ap (λ r. l ∷ r) (kept_all p ls h.1)
 
-pub or_false : (t : Bool) → (t || false) ≡ t
-or_false true = refl
-or_false false = refl
-
 -- ---- the lines of every kind
 
 module _ (of : Kind → List Line) where
   pub framed : (k : Kind) → flat_map of kinds ≡ flat_map of (before k) ++ (of k ++ flat_map of (behind k))
-  framed k = ap (flat_map of) (around k) ∙ joined_append of (before k) (k ∷ behind k)
+  framed k = ap (flat_map of) (around k) ∙ flat_map-append of (before k) (k ∷ behind k)
 
   module _ (each : (k : Kind) → AllByRecursion (Of k) (of k)) where
     all_joined : (P : Line → Type 0) (js : List Kind) → AllByRecursion (λ j. (l : Line) → Of j l → P l) js → AllByRecursion P (flat_map of js)
@@ -156,7 +150,7 @@ module _ (of : Kind → List Line) where
         let none = among_none rank (rank l) (flat_map of (before k)) (All-weaker (λ x. rank x < start k) (λ x. rank x ≡ rank l → ⊥) (λ x lt e. omega arith) (flat_map of (before k)) (front_low k)) in
         let none' = among_none rank (rank l) (flat_map of (behind k)) (All-weaker (λ x. stop k ≤ rank x) (λ x. rank x ≡ rank l → ⊥) (λ x le e. omega arith) (flat_map of (behind k)) (back_high k)) in
         ap (among rank (rank l)) (framed k) ∙ among_append rank (rank l) (flat_map of (before k)) (of k ++ flat_map of (behind k))
-        ∙ (λ i. none i || (among_append rank (rank l) (of k) (flat_map of (behind k)) ∙ (λ j. among rank (rank l) (of k) || none' j) ∙ or_false (among rank (rank l) (of k))) i)
+        ∙ (λ i. none i || (among_append rank (rank l) (of k) (flat_map of (behind k)) ∙ (λ j. among rank (rank l) (of k) || none' j) ∙ or-false (among rank (rank l) (of k))) i)
 
     -- and is put among its kind
     pub put_kind : (l : Line) → Within l → put rank l (flat_map of kinds) ≡ flat_map of (before (kind l)) ++ (put rank l (of (kind l)) ++ flat_map of (behind (kind l)))

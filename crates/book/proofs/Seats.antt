@@ -2,6 +2,7 @@
 use Rattle.std.proofs.Common.{◌≡◌, ℕ, zero, suc, ◌+◌, ◌<◌, ◌≤◌, false, ◌||◌, ◌⊎◌, List, [], ◌∷◌, ◌++◌, length, get_or, set, replicate, sym, refl, ap, ◌∙◌, subst, ⊎_elim, arith}
 use mathlib.Core.Logic.{∥∥₁_elim}
 use Rattle.std.specs.List.{AllByRecursion}
+use Rattle.std.proofs.Math.Bool.{or-false}
 use Rattle.std.proofs.lemmas.Bool.{eq-eqb}
 use Rattle.std.proofs.ByRecursion.{All-weaker, All-append}
 use Rattle.text.specs.declared.line.Line.{Line}
@@ -9,7 +10,7 @@ use Rattle.book.specs.Order.{Ascending, among, put}
 use Rattle.book.specs.Ranks.{Kind, start, rank}
 use Rattle.book.specs.Tables.{Along, filled, by_number}
 use Rattle.book.proofs.Ascent.{ascending_append, put_low, put_front, among_append, among_none, parted}
-use Rattle.book.proofs.ByKind.{Of, or_false}
+use Rattle.book.proofs.ByKind.{Of}
 
 -- at the place with number n of this kind: no line, or one with this number
 abbrev pub Seat : Kind → ℕ → List Line → Type 0
@@ -96,7 +97,7 @@ module _ {X : Type 0} (at : ℕ → X → List Line) (k : Kind) where
       let rest = by_number at (n + 1) xs in
       let r = start k + j in
       let none = among_none rank r rest (All-weaker (λ z. start k + (n + 1) ≤ rank z) (λ z. rank z ≡ r → ⊥) (λ z le eq. omega arith) rest (seats_low (n + 1) xs h.1)) in
-      among_append rank r (at n x) rest ∙ ap (λ t. among rank r (at n x) || t) none ∙ or_false (among rank r (at n x))
+      among_append rank r (at n x) rest ∙ ap (λ t. among rank r (at n x) || t) none ∙ or-false (among rank r (at n x))
       ∙ subst (λ m. among rank (start k + m) (at n x) ≡ filled (at m x)) same (seat_filled k n (at n x) h.0)
   seats_among n (x ∷ xs) (suc i) j d e lt h =
       let r = start k + j in

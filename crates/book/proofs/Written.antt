@@ -3,6 +3,7 @@ use Rattle.std.proofs.Common.{◌≡◌, ℕ, ◌+◌, ◌-◌, ◌*◌, ◌^◌
 use borrow.Rule.Slice.PartMut.{put_mid, post_of}
 use Rattle.std.specs.List.{AllByRecursion, flat_map, sum_by}
 use Rattle.std.proofs.lemmas.List.{drop_more, set_at, length-append, length-drop, length-map, length-take-le, length_push, take_at, drop_at, drop-drop, drop_all, take_rest}
+use Rattle.std.proofs.lemmas.Grind.{flat_map-append}
 use Rattle.std.proofs.lemmas.List.Sums.{sum_by-cons}
 use Rattle.grade.specs.declared.upto.UpTo.{UpTo}
 use Rattle.text.specs.declared.line.Line.{Line}
@@ -16,7 +17,6 @@ use Rattle.book.specs.Ranks.{Kind, rules, opens, watches, links, ends, bares}
 use Rattle.book.specs.Tables.{rule_line, mark_line, end_line, bare_line, by_number}
 use Rattle.book.specs.Lines.{lines_of, lines}
 use Rattle.book.specs.Writing.{ended, book_text}
-use Rattle.book.proofs.ByKind.{joined_append}
 use Rattle.book.proofs.Books.{within_lines}
 
 pub ended_length : (l : Line) → length (ended l) ≡ length (text l) + 1
@@ -42,7 +42,7 @@ one_written t e start out part n r long is size wrote =
 
 pub book_text_append : (xs ys : List Line) → book_text (xs ++ ys) ≡ book_text xs ++ book_text ys
 unfolding book_text
-book_text_append xs ys = joined_append ended xs ys
+book_text_append xs ys = flat_map-append ended xs ys
 
 book_text_one : (l : Line) → book_text (l ∷ []) ≡ ended l
 unfolding book_text
