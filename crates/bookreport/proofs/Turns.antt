@@ -1,6 +1,7 @@
 -- One line more is entered. Assumes nothing.
 use Rattle.std.proofs.Common.{◌≡◌, ℕ, ◌+◌, ◌≤◌, List, [], ◌∷◌, ◌++◌, length, Ok, Err, Result, sym, refl, ap, ◌∙◌, append_assoc, arith}
 use Rattle.std.proofs.lemmas.List.{length-append}
+use Rattle.std.proofs.lemmas.Grind.{flat_map-append}
 use Rattle.std.specs.List.{flat_map}
 use Rattle.text.specs.declared.line.Line.{Line}
 use Rattle.book.specs.declared.refusal.Refusal.{Refusal}
@@ -12,10 +13,6 @@ pub noted_few : (n : ℕ) (r : Result (List Line) Refusal) → length (noted n r
 noted_few n (Ok ms) = omega arith
 noted_few n (Err e) = omega arith
 
-joined_append : (xs ys : List Note) → flat_map note_text (xs ++ ys) ≡ flat_map note_text xs ++ flat_map note_text ys
-joined_append [] ys = refl
-joined_append (x ∷ xs) ys = ap (λ l. note_text x ++ l) (joined_append xs ys) ∙ sym (append_assoc (note_text x) (flat_map note_text xs) (flat_map note_text ys))
-
 module _ (ls ms : List Line) (s : List ℕ) (ss rest : List (List ℕ)) (n : ℕ) (is : rest ≡ s ∷ ss) (book : ms ≡ kept ls (entered ls s)) where
   pub book_on : book_after ms ss ≡ book_after ls rest
   book_on = ap (λ l. book_after l ss) book ∙ sym (ap (book_after ls) is)
@@ -26,7 +23,7 @@ module _ (ls ms : List Line) (s : List ℕ) (ss rest : List (List ℕ)) (n : ℕ
   pub notes_on : (before after : List ℕ) → after ≡ before ++ flat_map note_text (noted n (entered ls s)) → after ++ flat_map note_text (refused ms (n + 1) ss) ≡ before ++ flat_map note_text (refused ls n rest)
   notes_on before after e =
       ap (λ l. l ++ flat_map note_text (refused ms (n + 1) ss)) e
-      ∙ append_assoc before _ _ ∙ ap (λ l. before ++ l) (sym (ap (flat_map note_text) parts ∙ joined_append (noted n (entered ls s)) (refused ms (n + 1) ss)))
+      ∙ append_assoc before _ _ ∙ ap (λ l. before ++ l) (sym (ap (flat_map note_text) parts ∙ flat_map-append note_text (noted n (entered ls s)) (refused ms (n + 1) ss)))
 
   pub count_on : length (noted n (entered ls s)) + length (refused ms (n + 1) ss) ≡ length (refused ls n rest)
   count_on = sym (ap length parts ∙ length-append (noted n (entered ls s)) (refused ms (n + 1) ss))
