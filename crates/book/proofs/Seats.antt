@@ -1,5 +1,5 @@
 -- Tables in which places go by number: at most one line stands at a place. Assumes nothing.
-use Rattle.std.proofs.Common.{◌≡◌, ℕ, zero, suc, ◌+◌, ◌<◌, ◌≤◌, false, ◌||◌, ◌⊎◌, List, [], ◌∷◌, ◌++◌, length, get_or, set, replicate, sym, refl, ap, ◌∙◌, subst, ⊎_elim, arith}
+use Rattle.std.proofs.Common.{◌≡◌, ℕ, zero, suc, ◌+◌, ◌<◌, ◌≤◌, false, ◌||◌, ◌⊎◌, List, [], ◌∷◌, ◌++◌, length, get_or, set, sym, refl, ap, ◌∙◌, subst, ⊎_elim, arith}
 use mathlib.Core.Logic.{∥∥₁_elim}
 use Rattle.std.specs.List.{AllByRecursion}
 use Rattle.std.proofs.Math.Bool.{or-false}
@@ -31,10 +31,6 @@ along_weaker P Q f n (x ∷ xs) h = (f n x h.0, along_weaker P Q f (n + 1) xs h.
 pub along_below : {X : Type 0} (m n : ℕ) (xs : List X) → n + length xs ≤ m → Along (λ i _. i < m) n xs
 along_below m n [] h = tt
 along_below m n (x ∷ xs) h = (omega arith, along_below m (n + 1) xs (omega arith))
-
-pub along_same : {X : Type 0} (P : ℕ → X → Type 0) (x : X) → ((n : ℕ) → P n x) → (m n : ℕ) → Along P n (replicate m x)
-along_same P x h zero n = tt
-along_same P x h (suc m) n = (h n, along_same P x h m (n + 1))
 
 pub along_set : {X : Type 0} (P : ℕ → X → Type 0) (n : ℕ) (xs : List X) (i j : ℕ) (y : X) → n + i ≡ j → P j y → Along P n xs → Along P n (set xs i y)
 along_set P n [] i j y e p h = tt

@@ -1,5 +1,5 @@
 -- One line more is entered. Assumes nothing.
-use Rattle.std.proofs.Common.{◌≡◌, ℕ, ◌+◌, ◌≤◌, List, [], ◌∷◌, ◌++◌, length, Ok, Err, Result, sym, refl, ap, ◌∙◌, append_assoc, arith}
+use Rattle.std.proofs.Common.{◌≡◌, ℕ, ◌+◌, ◌≤◌, List, [], ◌∷◌, ◌++◌, length, Ok, Err, Result, sym, ap, ◌∙◌, append_assoc, arith}
 use Rattle.std.proofs.lemmas.List.{length-append}
 use Rattle.std.proofs.lemmas.Grind.{flat_map-append}
 use Rattle.std.specs.List.{flat_map}
@@ -7,7 +7,7 @@ use Rattle.text.specs.declared.line.Line.{Line}
 use Rattle.book.specs.declared.refusal.Refusal.{Refusal}
 use Rattle.book.specs.Entering.{entered}
 use Rattle.book.specs.Writing.{book_text}
-use Rattle.bookreport.specs.Report.{Note, Entered, book_after, kept, noted, refused, note_text, words, report}
+use Rattle.bookreport.specs.Report.{Entered, book_after, kept, noted, refused, note_text, words, report}
 
 pub noted_few : (n : ℕ) (r : Result (List Line) Refusal) → length (noted n r) ≤ 1
 noted_few n (Ok ms) = omega arith
