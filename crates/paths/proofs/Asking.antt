@@ -1,5 +1,5 @@
 -- Phases in use, and what is asked of them.
-use Rattle.std.proofs.Common.{◌≡◌, ℕ, ◌+◌, ◌<◌, ◌≤◌, List, length, take, reverse, get_or, Ok, Err, Some, None, Option, MatchOption, Result, OnErr, IfErr, sym, refl, ap, ◌∙◌, subst, ⊎_elim, arith}
+use Rattle.std.proofs.Common.{◌≡◌, ℕ, ◌+◌, ◌<◌, ◌≤◌, List, length, take, reverse, get_or, Ok, Err, Some, None, Option, MatchOption, sym, refl, ap, ◌∙◌, subst, ⊎_elim, arith}
 use Rattle.std.specs.Option.{ok_or}
 use Rattle.std.proofs.lemmas.List.{length-take-le, get_or-take}
 use Rattle.std.proofs.lemmas.Bool.{cases_lt}
@@ -20,9 +20,9 @@ use Rattle.rowtable.specs.Paths.{RowPath, RowsSay}
 use Rattle.rowtable.specs.Saturated.{SaturatedTable}
 use Rattle.paths.specs.declared.refusal.PathRefusal.{PathRefusal}
 use Rattle.paths.specs.declared.refusal.PathRefusal.TheVariants.{NoWay}
-use Rattle.paths.specs.Answers.{Asked, path_number}
+use Rattle.paths.specs.Answers.{Asked}
 use Rattle.paths.specs.Outcomes.{Starts, RowsSayOf, BestRowsTold, RowsLaidTold}
-use Rattle.paths.specs.Cells.{Sound}
+use Rattle.paths.specs.Cells.{Cell, grade_of, Sound}
 use Rattle.paths.specs.Layers.{BestSaid}
 use Rattle.paths.proofs.Taken.{best_of_cut, path_of_cut}
 
@@ -94,15 +94,11 @@ module _ {G : Type 0} (m : Ghosts G) (ls : List Line) (p : Phases) (rows : List 
       laid_by_grade list room o (best_in_use same is o said)
       (λ v e. path_of_cut m rows n sound.enough ls (subst (λ k. RowPath m k (take n rows) (length (take n rows)) s x.lane ws v) same (subst (λ r. RowPath m ks r (length r) s x.lane ws v) is (path v e))))
 
--- what stays as it was where nothing is laid out
-module _ {G : Type 0} {A P : Type 0} (Q : G → Type 0) (to : A → P) where
-  unlaid : (o : Option G) → MatchOption o A Q → OnErr (ok_or o NoWay) P
-  unlaid None laid = to laid
-  unlaid (Some v) laid = tt
+-- what holds of the cell's grade
+pub of_grade : {G : Type 0} (A : Type 0) (Q : G → Type 0) (c : Cell G) → MatchOption c A (λ t. Q t.grade) → (o : Option G) → o ≡ grade_of c → (v : G) → o ≡ Some v → Q v
+of_grade A Q None held o is v e = let some : None ≡ Some v = sym is ∙ e in let never : ◌≡◌ {A = ℕ} 0 1 = cc in absurd (omega arith)
+of_grade A Q (Some t) held o is v e = let same : Some t.grade ≡ Some v = sym is ∙ e in let grade : t.grade ≡ v = cc in subst Q grade held
 
-  pub stays : (o : Option G) (r : Result G PathRefusal) → r ≡ ok_or o NoWay → MatchOption o A Q → OnErr r P
-  stays o r is laid = subst (λ q. OnErr q P) (sym is) (unlaid o laid)
-
-pub stays_early : {G : Type 0} (P : Type 0) (n : ℕ) (r : Result G PathRefusal) → OnErr r P → IfErr r (λ e. path_number e < n → P)
-stays_early P n (Ok v) same = tt
-stays_early P n (Err e) same = λ lt. same
+-- no grade is refused
+pub refused : {G P : Type 0} {o : Option G} {e : PathRefusal} {v : G} → Err e ≡ ok_or o NoWay → o ≡ Some v → P
+refused {e = e} {v = v} is some = let both : Err e ≡ Ok v = is ∙ ap (λ p. ok_or p NoWay) some in let never : ◌≡◌ {A = ℕ} 0 1 = cc in absurd (omega arith)

@@ -1,6 +1,6 @@
 -- Layers one after another in a table.
-use Rattle.std.proofs.Common.{◌≡◌, ℕ, ◌+◌, ◌*◌, ◌<◌, List, [], ◌∷◌, ◌++◌, length, get_or, drop, None, Option, sym, ap, ◌∙◌, subst, add-mul, one-mul, arith}
-use Rattle.std.proofs.lemmas.List.{get_or_append_left, get_or_read}
+use Rattle.std.proofs.Common.{◌≡◌, ℕ, ◌+◌, ◌*◌, ◌<◌, ◌≤◌, List, [], ◌∷◌, ◌++◌, length, get_or, drop, None, Option, sym, ap, ◌∙◌, subst, add-mul, one-mul, arith}
+use Rattle.std.proofs.lemmas.List.{get_or_append_left, get_or_read, length-append}
 use Rattle.std.proofs.Math.Seq.{drop-append_seam}
 use Rattle.grade.specs.declared.grade.Grade.{Ghosts}
 use Rattle.grade.specs.Lawful.{Lawful}
@@ -24,20 +24,30 @@ module _ {G : Type 0} (m : Ghosts G) (Fs : List ℕ) where
       subst (Says m (P s)) (sym (get_or_append_left layer behind _ (index Fs s) (omega arith))) (told s exists)
 
 module _ {G : Type 0} (m : Ghosts G) (ls : List Line) (rows : List (TableRow G)) (n : ℕ) (Fs : List ℕ) where
+  pub front_whole : (w : List ℕ) (cells : List (Cell G)) → Layered m ls rows n Fs w cells → width Fs ≤ length cells
+  front_whole [] cells layered = layered.0
+  front_whole (x ∷ w) cells layered = layered.0
+
   pub front_layer : (w : List ℕ) (cells : List (Cell G)) → Layered m ls rows n Fs w cells → Layer m Fs cells (Onward m ls rows n w)
-  front_layer [] cells layered = layered
-  front_layer (x ∷ w) cells layered = layered.0
+  front_layer [] cells layered = layered.1
+  front_layer (x ∷ w) cells layered = layered.1.0
+
+  whole : (layer behind : List (Cell G)) → length layer ≡ width Fs → width Fs ≤ length (layer ++ behind)
+  whole layer behind wide = let both = length-append layer behind in omega arith
 
   -- the last layer is that of no wagons ..
   pub layered_last : (layer behind : List (Cell G)) → length layer ≡ width Fs → Layer m Fs layer (Stopping m ls) → Layered m ls rows n Fs [] (layer ++ behind)
-  layered_last layer behind wide told = layer_front m Fs (Onward m ls rows n []) layer behind wide (stopping_layer m ls rows n Fs layer told)
+  layered_last layer behind wide told = (whole layer behind wide, layer_front m Fs (Onward m ls rows n []) layer behind wide (stopping_layer m ls rows n Fs layer told))
 
   -- .. and before layers comes one by one wagon more
   pub layered_more : Lawful m → Sound m Fs rows n → (x : ℕ) (w : List ℕ) (layer behind : List (Cell G)) → length layer ≡ width Fs → Layer m Fs layer (Offers m Fs rows n x behind)
       → Layered m ls rows n Fs w behind → Layered m ls rows n Fs (x ∷ w) (layer ++ behind)
   layered_more lawful sound x w layer behind wide told layered = (
-    layer_front m Fs (Onward m ls rows n (x ∷ w)) layer behind wide (filled_onward m ls rows n lawful sound x w behind layer (front_layer w behind layered) told),
-    subst (Layered m ls rows n Fs w) (sym (ap (λ k. drop k (layer ++ behind)) (sym wide) ∙ drop-append_seam layer behind)) layered,
+    whole layer behind wide,
+    (
+      layer_front m Fs (Onward m ls rows n (x ∷ w)) layer behind wide (filled_onward m ls rows n lawful sound x w behind layer (front_layer w behind layered) told),
+      subst (Layered m ls rows n Fs w) (sym (ap (λ k. drop k (layer ++ behind)) (sym wide) ∙ drop-append_seam layer behind)) layered,
+    ),
   )
 
 -- a cell that was read

@@ -13,7 +13,7 @@ use Rattle.rowtable.specs.Paths.{RowPath, path_end, path_on}
 use Rattle.paths.specs.declared.cell.Step.{Step}
 use Rattle.paths.specs.Cells.{Cell, width, index, cell_at, Chosen, Says, Sound}
 use Rattle.paths.specs.Layers.{Onward, Layered}
-use Rattle.paths.proofs.Layering.{next_layer, cell_read, front_layer}
+use Rattle.paths.proofs.Layering.{cell_read, front_whole, front_layer}
 use Rattle.paths.proofs.Onward.{First, first_row}
 
 -- a row is there or not
@@ -91,15 +91,6 @@ module _ {G : Type 0} (m : Ghosts G) (ls : List Line) (rows : List (TableRow G))
   opened : lane ≡ top ∷ rest
   opened = drop_more lane 0 0 some ∙ ap (λ w. top ∷ w) (sym tail)
 
-  -- there is room for the layers behind
-  pub lane_room : (length lane + 1) * width Fs ≤ length cells → (length rest + 1) * width Fs ≤ length behind
-  lane_room room =
-      let long = ap length opened in
-      let e = ap (λ k. (k + 1) * width Fs) long in
-      let f = next_layer (length rest + 1) (width Fs) in
-      let g : length behind ≡ length cells - width Fs = ap length cut ∙ length-drop (width Fs) cells in
-      omega arith
-
   module _ (layered : Layered m ls rows n Fs lane cells) (s : TableState) (exists : Exists Fs s) where
     abbrev here : Cell G
     here = cell_at cells (index Fs s)
@@ -108,28 +99,28 @@ module _ {G : Type 0} (m : Ghosts G) (ls : List Line) (rows : List (TableRow G))
     both = subst (λ w. Layered m ls rows n Fs w cells) opened layered
 
     pub lane_behind : Layered m ls rows n Fs rest behind
-    lane_behind = subst (Layered m ls rows n Fs rest) (sym cut) both.1
+    lane_behind = subst (Layered m ls rows n Fs rest) (sym cut) both.1.1
 
     pub lane_without : Names m ls rows n here None → (old : List ℕ) → Laid m ls rows n here s lane old old
-    lane_without row old = subst (λ w. Laid m ls rows n here s w old old) (sym opened) (laid_without m ls rows n s top rest here row (both.0 s exists) old)
+    lane_without row old = subst (λ w. Laid m ls rows n here s w old old) (sym opened) (laid_without m ls rows n s top rest here row (both.1.0 s exists) old)
 
     pub lane_below : (k : ℕ) → Names m ls rows n here (Some k) → k < n
-    lane_below k row = row_below m ls rows n s top rest k here row (both.0 s exists)
+    lane_below k row = row_below m ls rows n s top rest k here row (both.1.0 s exists)
 
     pub lane_on : Lawful m → Sound m Fs rows n → (k : ℕ) → Names m ls rows n here (Some k) → (old below new : List ℕ)
         → Laid m ls rows n (cell_at behind (index Fs (row_at m rows k).to)) (row_at m rows k).to rest below new → Laid m ls rows n here s lane old (new ++ k ∷ [])
     lane_on lawful sound k row old below new laid =
         let t = (row_at m rows k).to in
         subst (λ w. Laid m ls rows n here s w old (new ++ k ∷ [])) (sym opened)
-        (laid_on m ls rows n s top rest k lawful here row (both.0 s exists) (cell_at behind (index Fs t)) (front_layer m ls rows n Fs rest behind lane_behind t (sound.to k (lane_below k row))) old below new laid)
+        (laid_on m ls rows n s top rest k lawful here row (both.1.0 s exists) (cell_at behind (index Fs t)) (front_layer m ls rows n Fs rest behind lane_behind t (sound.to k (lane_below k row))) old below new laid)
 
 -- a list but for its first
 pub from_one : (w : List ℕ) → take (length w - 1) (drop 1 w) ≡ drop 1 w
 from_one w = grind (arith, common_steps)
 
 -- the row that a cell names, as the program reads it
-pub names_read : {G : Type 0} (m : Ghosts G) (ls : List Line) (rows : List (TableRow G)) (n : ℕ) (Fs lane : List ℕ) (cells : List (Cell G)) (s : TableState) (i : ℕ) (c : Cell G) (o : Option ℕ)
-    → (length lane + 1) * width Fs ≤ length cells → i < width Fs → i ≡ index Fs s → c ≡ get_or cells i c → Names m ls rows n c o → Names m ls rows n (cell_at cells (index Fs s)) o
-names_read m ls rows n Fs lane cells s i c o room low is read row =
-    let more = next_layer (length lane) (width Fs) in
+pub names_read : {G : Type 0} (m : Ghosts G) (ls : List Line) (rows : List (TableRow G)) (n : ℕ) (Fs lane : List ℕ) (cells : List (Cell G)) → Layered m ls rows n Fs lane cells → (s : TableState) (i : ℕ) (c : Cell G) (o : Option ℕ)
+    → i < width Fs → i ≡ index Fs s → c ≡ get_or cells i c → Names m ls rows n c o → Names m ls rows n (cell_at cells (index Fs s)) o
+names_read m ls rows n Fs lane cells layered s i c o low is read row =
+    let whole = front_whole m ls rows n Fs lane cells layered in
     subst (λ d. Names m ls rows n d o) (cell_read cells i (index Fs s) c (omega arith) read is) row

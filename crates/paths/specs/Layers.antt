@@ -1,5 +1,5 @@
 -- Layers: what cells know of a state and the wagons that are left.
-use Rattle.std.specs.Prelude.{◌≡◌, ℕ, ◌<◌, List, [], ◌∷◌, drop, None, Option, MatchOption, slice_get}
+use Rattle.std.specs.Prelude.{◌≡◌, ℕ, ◌<◌, ◌≤◌, List, [], ◌∷◌, length, drop, None, Option, MatchOption, slice_get}
 use Rattle.grade.specs.declared.grade.Grade.{Ghosts}
 use Rattle.text.specs.declared.line.Line.{Line}
 use Rattle.model.specs.Grades.{Best}
@@ -25,10 +25,10 @@ module _ {G : Type 0} (m : Ghosts G) (ls : List Line) (rows : List (TableRow G))
   abbrev pub BestSaid : TableState → List ℕ → Option G → Type 0
   BestSaid s w r = MatchOption r ((v : G) → RowsSay m ls rows n s w v → ⊥) (Best m (RowsSay m ls rows n s w))
 
-  -- layers one after another: the first has the best of what the rows say of the lane, and those behind it the same of the lane without its top wagon
+  -- layers one after another, each whole: the first has the best of what the rows say of the lane, and those behind it the same of the lane without its top wagon
   abbrev pub Layered : List ℕ → List ℕ → List (Cell G) → Type 0
-  Layered Fs [] cells = Layer m Fs cells (Onward [])
-  Layered Fs (x ∷ w) cells = Layer m Fs cells (Onward (x ∷ w)) × Layered Fs w (drop (width Fs) cells)
+  Layered Fs [] cells = (width Fs ≤ length cells) × Layer m Fs cells (Onward [])
+  Layered Fs (x ∷ w) cells = (width Fs ≤ length cells) × (Layer m Fs cells (Onward (x ∷ w)) × Layered Fs w (drop (width Fs) cells))
 
 module _ {G : Type 0} (m : Ghosts G) (ls : List Line) (Fs : List ℕ) (rows : List (TableRow G)) (n : ℕ) where
   -- the ways that the first n rows make

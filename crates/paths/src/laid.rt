@@ -54,7 +54,9 @@ pub fn lay_out<G: Grade>(
         return Err(PathRefusal::ListShort);
     }
     let table = SoundRows::checked(book, phases, rows, count)?;
-    table
-        .lay_best(start, lane, scratch, &mut list[..lane.len()])
-        .ok_or(PathRefusal::NoWay)
+    let grade = table
+        .best_from(start, lane, scratch)
+        .ok_or(PathRefusal::NoWay)?;
+    table.lay(start, lane, scratch, &mut list[..lane.len()]);
+    Ok(grade)
 }

@@ -15,9 +15,8 @@ use rowtable::row::TableState;
 
 impl<'a, G: Grade> SoundRows<'a, G> {
     // Puts the rows of a best path from a state by the lane on the list, if there is one: a row for each wagon, the first on top.
-    fn lay(&self, state: TableState, lane: &[u8], cells: &[Cell<G>], list: &mut [usize])
+    pub(crate) fn lay(&self, state: TableState, lane: &[u8], cells: &[Cell<G>], list: &mut [usize])
         requires exists { Exists self.now.phases.now state }
-        requires room { (length lane.now + 1) * width self.now.phases.now ≤ length cells.now }
         requires places { length list.old ≡ length lane.now }
         requires layered { Layered G.Grade.own (lines self.now.book.now) self.now.rows.now (length self.now.rows.now) self.now.phases.now lane.now cells.now }
         ensures { MatchOption (cell_at cells.now (index self.now.phases.now state)) (list.new ≡ list.old)
@@ -33,25 +32,5 @@ impl<'a, G: Grade> SoundRows<'a, G> {
         *slot = place;
         let (_, behind) = cells.split_at(self.width());
         self.lay(self.rows[place].to, &lane[1..], behind, below);
-    }
-
-    // Lays out a best path from a state, if there is one, and tells its grade.
-    pub(crate) fn lay_best(
-        &self,
-        start: TableState,
-        lane: &[u8],
-        cells: &mut [Cell<G>],
-        list: &mut [usize],
-    ) -> Option<G>
-        requires exists { Exists self.now.phases.now start }
-        requires room { (length lane.now + 1) * width self.now.phases.now ≤ length cells.old }
-        requires places { length list.old ≡ length lane.now }
-        ensures told { BestSaid G.Grade.own (lines self.now.book.now) self.now.rows.now (length self.now.rows.now) start lane.now result }
-        ensures laid { MatchOption result (list.new ≡ list.old)
-            (RowPath G.Grade.own (lines self.now.book.now) self.now.rows.now (length self.now.rows.now) start lane.now (reverse list.new)) }
-    {
-        let grade = self.best_from(start, lane, cells);
-        self.lay(start, lane, cells, list);
-        grade
     }
 }

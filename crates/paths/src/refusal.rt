@@ -1,7 +1,7 @@
 // Why no path is told.
 ghost use Rattle.std.specs.Prelude.{◌≡◌};
 
-#[derive(Clone, Copy)]
+#[derive(Clone, Copy, Debug, PartialEq, Eq)]
 pub enum PathRefusal {
     // the mode or a wagon is above its limit, or the lane is too long
     TooLarge,

@@ -39,7 +39,8 @@ fn all_lead<G: Grade>(phases: &[u64], rows: &[TableRow<G>]) -> bool
 }
 
 impl<'a, G: Grade> SoundRows<'a, G> {
-    // The first `count` rows, if there are so many, and each leads from a state that exists to one.
+    // The first `count` rows, if there are so many, and each leads from a state that exists to one. Any table and any count may
+    // be handed over, and too large a count is refused.
     pub(crate) fn checked(
         book: &'a Book,
         phases: &'a Phases,

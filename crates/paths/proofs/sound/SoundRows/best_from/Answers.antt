@@ -2,7 +2,7 @@ use Rattle.std.proofs.Common.{◌≡◌, ◌<◌, length, sym, ap, ◌∙◌, su
 use Rattle.book.specs.Lines.{lines}
 use Rattle.paths.specs.Cells.{width, index, cell_at, grade_of}
 use Rattle.paths.specs.Layers.{BestSaid}
-use Rattle.paths.proofs.Layering.{next_layer, front_layer, cell_read}
+use Rattle.paths.proofs.Layering.{front_whole, front_layer, cell_read}
 use Rattle.paths.proofs.Onward.{says_best}
 use Rattle.paths.proofs.sound.SoundRows.best_from.Goals as goal
 
@@ -15,7 +15,7 @@ returns-clause-told g c =
     let cells = c.fill_layers.new.cells in
     let s = c.args.start in
     let lane = c.args.lane.now in
-    let inside : c.index.result < length cells = let low = c.index.ensures.within in let room = c.requires.room in let long = c.fill_layers.auto.cells in let more = next_layer (length lane) (width Fs) in omega arith in
+    let inside : c.index.result < length cells = let low = c.index.ensures.within in let whole = front_whole m ls rows (length rows) Fs lane cells c.fill_layers.ensures in omega arith in
     let is : c.index-cells-index.result ≡ cell_at cells (index Fs s) = cell_read cells c.index.result (index Fs s) c.index-cells-index.result inside c.index-cells-index.is c.index.ensures.is in
     let graded : c.map.result ≡ grade_of c.index-cells-index.result = search rules in
     subst (BestSaid m ls rows (length rows) s lane) (sym (graded ∙ ap grade_of is))

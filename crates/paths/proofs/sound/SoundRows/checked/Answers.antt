@@ -3,7 +3,7 @@ use Rattle.std.proofs.lemmas.Grind.{common_steps}
 use Rattle.std.specs.List.{All}
 use Rattle.phases.specs.Table.{used}
 use Rattle.paths.specs.Cells.{Leads}
-use Rattle.unfolding.proofs.Showing.{clash}
+use Rattle.std.proofs.lemmas.Bool.{both_ways}
 use Rattle.paths.proofs.Taken.{cut_sound, sound_cut}
 use Rattle.paths.proofs.sound.SoundRows.checked.Goals as goal
 
@@ -16,7 +16,7 @@ returns-then-not-all_lead g c = (
   λ sound.
       let rows : c.in-Some.rows.now ≡ take c.args.count c.args.rows.now = grind (arith, common_steps, c.in-Some.ensures.lookup) in
       let cut = sound_cut g.G.Grade c.args.rows.now c.args.count sound.enough sound in
-      clash (sym c.if-not-all_lead.true ∙ c.all_lead.ensures.1 (subst (λ Fs. All (Leads Fs) c.in-Some.rows.now) (sym c.in_use-phases.ensures) (subst (All (Leads (used c.args.phases.now))) (sym rows) cut))),
+      both_ways _ c.if-not-all_lead.true (c.all_lead.ensures.1 (subst (λ Fs. All (Leads Fs) c.in-Some.rows.now) (sym c.in_use-phases.ensures) (subst (All (Leads (used c.args.phases.now))) (sym rows) cut))),
 )
 
 pub returns : goal.returns
