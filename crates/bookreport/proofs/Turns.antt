@@ -1,17 +1,12 @@
 -- One line more is entered. Assumes nothing.
-use Rattle.std.proofs.Common.{◌≡◌, ℕ, ◌+◌, ◌≤◌, List, [], ◌∷◌, ◌++◌, length, Ok, Err, Result, sym, ap, ◌∙◌, append_assoc, arith}
+use Rattle.std.proofs.Common.{◌≡◌, ℕ, ◌+◌, List, [], ◌∷◌, ◌++◌, length, sym, ap, ◌∙◌, append_assoc}
 use Rattle.std.proofs.lemmas.List.{length-append}
 use Rattle.std.proofs.lemmas.Grind.{flat_map-append}
 use Rattle.std.specs.List.{flat_map}
 use Rattle.text.specs.declared.line.Line.{Line}
-use Rattle.book.specs.declared.refusal.Refusal.{Refusal}
 use Rattle.book.specs.Entering.{entered}
 use Rattle.book.specs.Writing.{book_text}
 use Rattle.bookreport.specs.Report.{Entered, book_after, kept, noted, refused, note_text, words, report}
-
-pub noted_few : (n : ℕ) (r : Result (List Line) Refusal) → length (noted n r) ≤ 1
-noted_few n (Ok ms) = omega arith
-noted_few n (Err e) = omega arith
 
 module _ (ls ms : List Line) (s : List ℕ) (ss rest : List (List ℕ)) (n : ℕ) (is : rest ≡ s ∷ ss) (book : ms ≡ kept ls (entered ls s)) where
   pub book_on : book_after ms ss ≡ book_after ls rest
@@ -29,7 +24,7 @@ module _ (ls ms : List Line) (s : List ℕ) (ss rest : List (List ℕ)) (n : ℕ
   count_on = sym (ap length parts ∙ length-append (noted n (entered ls s)) (refused ms (n + 1) ss))
 
 -- what is printed, put together
-pub report_is : (ls : List Line) (s notes out : List ℕ) (read bad bytes : ℕ) → Entered [] s [] ls notes read bad → out ≡ notes ++ book_text ls → bytes ≡ length (book_text ls) → out ++ words read bad (length ls) bytes ≡ report s
-report_is ls s notes out read bad bytes h e g =
-    ap (λ l. l ++ words read bad (length ls) bytes) e ∙ append_assoc notes (book_text ls) (words read bad (length ls) bytes)
-    ∙ (λ i. h.notes i ++ (book_text (h.book i) ++ words (h.lines_read i) (h.lines_refused i) (length (h.book i)) ((g ∙ ap (λ l. length (book_text l)) h.book) i)))
+pub report_is : (ls : List Line) (s notes out : List ℕ) (read bad : ℕ) → Entered [] s [] ls notes read bad → out ≡ notes ++ book_text ls → out ++ words read bad (length ls) (length (book_text ls)) ≡ report s
+report_is ls s notes out read bad h e =
+    ap (λ l. l ++ words read bad (length ls) (length (book_text ls))) e ∙ append_assoc notes (book_text ls) (words read bad (length ls) (length (book_text ls)))
+    ∙ (λ i. h.notes i ++ (book_text (h.book i) ++ words (h.lines_read i) (h.lines_refused i) (length (h.book i)) (length (book_text (h.book i)))))

@@ -27,6 +27,7 @@ struct Entries {
     notes: Vec<u8>,
     read: usize,
     refused: usize,
+    ghost few: { refused ≤ read },
 }
 
 impl Entries {
@@ -34,8 +35,7 @@ impl Entries {
 
     // Enters one line more, and notes a refusal.
     fn enter(&mut self, heap: Global, line: &[u8]) -> Result<(), AllocError>
-        requires room { self.old.read + 1 < 2 ^ 64 }
-        requires few { self.old.refused ≤ self.old.read }
+        requires { self.old.read + 1 < 2 ^ 64 }
         ensures { OnOk result (Enters self.old line.now self.new) }
     {
         self.read += 1;
@@ -48,13 +48,14 @@ impl Entries {
     }
 
     // What is said at the end.
-    fn closing(&self, heap: Global, bytes: usize) -> Result<String, AllocError>
-        ensures { IfOk result (λ t. string_bytes t ≡ words self.now.read self.now.refused (length (lines self.now.book)) bytes) }
+    fn closing(&self, heap: Global) -> Result<String, AllocError>
+        ensures { IfOk result (λ t. let ls = lines self.now.book in string_bytes t ≡ words self.now.read self.now.refused (length ls) (length (book_text ls))) }
     {
         let read = self.read;
         let refused = self.refused;
-        let kept = read.saturating_sub(refused);
+        let kept = read - refused;
         let standing = self.book.len();
+        let bytes = self.book.text_len();
         format!(in heap;
             "lines read {read}, kept {kept}, refused {refused}; the book has lines {standing}, bytes {bytes}\n"
         )
@@ -78,25 +79,27 @@ fn enter_lines(heap: Global, text: &[u8]) -> Result<Entries, AllocError>
 }
 
 // Writes the text of a book behind what is there.
-fn append_book(heap: Global, book: &Book, out: &mut Vec<u8>) -> Result<usize, AllocError>
-    ensures { IfOk result (λ n.
-        (n ≡ length (book_text (lines book.now)))
-        × (out.new.items ≡ out.old.items ++ book_text (lines book.now))) }
+fn append_book(heap: Global, book: &Book, out: &mut Vec<u8>) -> Result<(), AllocError>
+    ensures { OnOk result (out.new.items ≡ out.old.items ++ book_text (lines book.now)) }
 {
     let mut text = vec![in heap; 0u8; book.text_len()]?;
-    let n = book.write(text.as_mut_slice()).unwrap();
+    book.write(text.as_mut_slice()).unwrap();
     out.extend_from_slice(text.as_slice())?;
-    Ok(n)
+    Ok(())
 }
 
 // What is printed of a text: each refusal, the book in its one order, and what was done.
 pub fn report_text(heap: Global, text: &[u8]) -> Result<Vec<u8>, AllocError>
     ensures { IfOk result (λ v. v.items ≡ report text.now) }
 {
-    let mut entries = enter_lines(heap, text)?;
-    let bytes = append_book(heap, &entries.book, &mut entries.notes)?;
-    let last = entries.closing(heap, bytes)?;
-    let mut out = entries.notes;
+    let entries = enter_lines(heap, text)?;
+    let last = entries.closing(heap)?;
+    let Entries {
+        book,
+        notes: mut out,
+        ..
+    } = entries;
+    append_book(heap, &book, &mut out)?;
     out.extend_from_slice(last.as_bytes())?;
     Ok(out)
 }

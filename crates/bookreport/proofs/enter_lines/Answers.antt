@@ -3,12 +3,11 @@ use Rattle.std.proofs.lemmas.List.{length-append}
 use Rattle.std.proofs.lemmas.List.Sorted.{answers_always}
 use Rattle.std.specs.List.{flat_map}
 use Rattle.std.specs.Slice.Iter.{split_inclusive_rest}
-use Rattle.book.specs.Entering.{entered}
 use Rattle.book.specs.Lines.{lines}
 use Rattle.book.specs.Writing.{split}
 use Rattle.bookreport.specs.Report.{note_text, refused}
 use Rattle.bookreport.proofs.Cuts.{cut}
-use Rattle.bookreport.proofs.Turns.{noted_few, book_on, notes_on, count_on}
+use Rattle.bookreport.proofs.Turns.{book_on, notes_on, count_on}
 use Rattle.bookreport.proofs.enter_lines.Goals as goal
 
 pub loop-line-preserved : goal.loop-line-preserved
@@ -35,6 +34,5 @@ loop-line-preserved c =
           ∙ notes_on ls ms l (split t) (split w) n is k.book (vec_items c.loop-line.entries.notes) (vec_items c.enter.new.self.notes) k.notes ∙ h.notes;
       read = omega (arith, same, lines_left, h.read);
       refused = (let f = ap (λ m. length (refused ms (m + 1) (split t))) same in omega (arith, f, refused_now, more, h.refused));
-      few = (let one = noted_few n (entered ls l) in omega (arith, same, refused_now, one, h.few));
       room = (let size = s.1.1 in let some = s.2 in omega (arith, same, cut_off, size, some, h.room));
     }

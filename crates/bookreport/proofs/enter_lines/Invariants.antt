@@ -13,6 +13,5 @@ invariant-loop-line l = record {
   notes : vec_items l.entries.notes ++ flat_map note_text (refused (lines l.entries.book) (l.entries.read + 1) (split (split_inclusive_rest l.line-iterator))) ≡ flat_map note_text (refused [] 1 (split l.text));
   read : l.entries.read + length (split (split_inclusive_rest l.line-iterator)) ≡ length (split l.text);
   refused : l.entries.refused + length (refused (lines l.entries.book) (l.entries.read + 1) (split (split_inclusive_rest l.line-iterator))) ≡ length (refused [] 1 (split l.text));
-  few : l.entries.refused ≤ l.entries.read;
   room : l.entries.read + length (split_inclusive_rest l.line-iterator) ≤ length l.text;
 }

@@ -4,7 +4,5 @@ use Rattle.bookreport.proofs.report_text.Goals as goal
 
 pub returns : goal.returns
 returns c =
-    let b = c.in_ok-bytes.ensures in
-    c.in_ok-extend_from_slice.ensures.items
-    ∙ ap (λ l. vec_items c.append_book.new.out ++ l) (c.as_bytes.ensures.value ∙ c.in_ok-last.ensures)
-    ∙ report_is _ c.args.text.now _ _ _ _ _ c.in_ok-entries.ensures b.1 b.0
+    c.in_ok-extend_from_slice.ensures.items ∙ ap (λ l. vec_items c.append_book.new.out ++ l) (c.as_bytes.ensures.value ∙ c.in_ok-last.ensures)
+    ∙ report_is _ c.args.text.now _ _ _ _ c.in_ok-entries.ensures c.in_ok-append_book.ensures
