@@ -26,7 +26,7 @@ impl From<LineRefusal> for Refusal {
 }
 
 impl Refusal {
-    // The number that the refusal is told by.
+    // The number that the refusal is told by, as reports print it.
     pub fn number(&self) -> u8
         ensures { result ≡ number_of self.now }
     {
@@ -38,7 +38,7 @@ impl Refusal {
         }
     }
 
-    // The byte of the line that the refusal names, counted from 1, or 0.
+    // The byte of the line that the refusal names, counted from 1, or 0: a number in any case, as reports print it.
     pub fn place(&self) -> usize
         ensures { result ≡ place_of self.now }
     {
