@@ -1,13 +1,10 @@
 -- Nothing waits: the table holds exactly the saturated rows.
-use Rattle.std.proofs.Common.{◌≡◌, ℕ, ◌+◌, ◌-◌, ◌<◌, ◌≤◌, min, List, length, get_or, take, Some, None, Option, MatchOption, sym, refl, ap, ap₂, ◌∙◌, subst, ⊎_elim, arith}
-use native.Mathlib.Decide.{dec_lt, ℕ_discrete}
-use Rattle.std.proofs.lemmas.List.{get_or_default, get_or_past, get_or-take, length-take}
+use Rattle.std.proofs.Common.{◌≡◌, ℕ, ◌-◌, ◌<◌, ◌≤◌, min, List, length, get_or, take, Some, None, Option, MatchOption, sym, refl, ap, ap₂, ◌∙◌, subst, ⊎_elim, arith}
+use Rattle.std.proofs.lemmas.List.{get_or_default, get_or-take, length-take}
 use Rattle.grade.specs.declared.grade.Grade.{Ghosts}
 use Rattle.grade.specs.declared.waiting.Waiting.{Waiting}
-use Rattle.grade.specs.Lawful.{Lawful}
-use Rattle.grade.specs.Waits.{sooner}
 use Rattle.queue.specs.Queues.{Holds}
-use Rattle.queue.proofs.Members.{single_none, holds_none, queue_none}
+use Rattle.queue.proofs.Members.{holds_none}
 use Rattle.deduction.specs.Counting.{Filled, Outnumber}
 use Rattle.deduction.specs.Derivations.{Derivation}
 use Rattle.deduction.proofs.Bounds.{settled_final, finished_all}
@@ -22,26 +19,6 @@ use Rattle.rowtable.specs.Reasons.{SettledAt}
 use Rattle.saturation.specs.Work.{unranked, WaitsAt, Has, Table, Worked, Turned}
 use Rattle.saturation.specs.Complete.{Complete}
 use Rattle.saturation.proofs.Turns.{key_once}
-
--- an empty table
-pub table_none : {G : Type 0} {m : Ghosts G} {Fs : List ℕ} {ls : List Line} (rows : List (TableRow G)) (queue : List (Waiting G)) → Lawful m → Filled (Opened ls) (λ k. get_or Fs k 0) (length Fs) → length rows ≤ unranked
-    → ((k : ℕ) → row_at m rows k ≡ blank_row m.best) → Table m Fs ls rows 0 0 queue
-table_none {m = m} rows queue lawful phases few blank = record {
-  lawful = lawful;
-  phases = phases;
-  few = few;
-  in_range = omega arith;
-  room = omega arith;
-  entries = omega arith;
-  apart = λ k l hk. absurd (omega arith);
-  placed = λ k hk. absurd (omega arith);
-  ranked = λ k hk. absurd (omega arith);
-  ranks = λ k l hk. absurd (omega arith);
-  blank = λ k hk. blank k;
-  ordered = queue_none (sooner m.noworse) queue;
-  single = single_none queue;
-  holds = λ e. (λ held. absurd (holds_none queue e held), λ w. let lt = w.0 in absurd (omega arith));
-}
 
 module _ {G : Type 0} {m : Ghosts G} {Fs : List ℕ} {ls : List Line} {rows : List (TableRow G)} {s n : ℕ} {queue : List (Waiting G)} (w : Worked m Fs ls rows s n queue) (all : s ≡ n) where
   t : Table m Fs ls rows s n queue

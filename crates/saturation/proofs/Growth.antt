@@ -1,5 +1,5 @@
 -- How the row table and the queue grow.
-use Rattle.std.proofs.Common.{◌≡◌, ℕ, ◌+◌, ◌-◌, ◌<◌, ◌≤◌, min, Bool, true, false, not, ◌&&◌, ◌||◌, T, leb, ◌≢◌, ◌⊎◌, ◌↔◌, List, length, set, Some, None, Option, sym, refl, ap, ◌∙◌, subst, inl, inr, ⊎_elim, arith, length-set, get_or-set_other, get_or-set_same, MatchOption}
+use Rattle.std.proofs.Common.{◌≡◌, ℕ, ◌+◌, ◌-◌, ◌<◌, ◌≤◌, min, Bool, true, false, ◌||◌, T, ◌≢◌, ◌⊎◌, ◌↔◌, List, length, set, Some, None, Option, sym, refl, ap, ◌∙◌, subst, inl, inr, ⊎_elim, arith, length-set, get_or-set_other, get_or-set_same, MatchOption}
 use native.Mathlib.Decide.{dec_lt, ℕ_discrete}
 use Rattle.grade.specs.declared.grade.Grade.{Ghosts}
 use Rattle.grade.specs.declared.waiting.Waiting.{Waiting}
@@ -25,14 +25,7 @@ pub replaces : {X : Type 0} (f : X → X → Bool) {xs ys : List X} {n place : �
 replaces f {e = e} None room at better told = absurd (told.0 (record { room = room; low = at.low; better = λ d. subst (λ x. T (f e x)) (sym (at.is d)) better }))
 replaces f {xs} {ys} {n} {e = e} (Some o) room at better told = subst (λ x. Replaced f xs ys n x e) (sym (told.0.is e) ∙ at.is e) told.1
 
--- the better grade goes first
-sooner_so : (x y z : Bool) → T x → y ≡ false → T (x && (not y || z))
-sooner_so x y z better worse = subst (λ w. T (x && (not w || z))) (sym worse) (one x better)
-  where
-    one : (x : Bool) → T x → T (x && true)
-    one true h = h
-    one false h = h
-
+-- of two grades one is no worse
 or_false : (x y : Bool) → y ≡ false → T (x || y) → T x
 or_false true y e h = tt
 or_false false y e h = subst T e h
@@ -41,8 +34,8 @@ module _ {G : Type 0} (f : G → G → Bool) (total : (a b : G) → T (f a b || 
   pub turned : (a b : G) → f b a ≡ false → T (f a b)
   turned a b worse = or_false (f a b) (f b a) worse (total a b)
 
-  pub sooner_better : (a b : Waiting G) → f b.grade a.grade ≡ false → T (sooner f a b)
-  sooner_better a b worse = sooner_so (f a.grade b.grade) (f b.grade a.grade) (leb a.row b.row) (turned a.grade b.grade worse) worse
+  pub worse_as : {h : G → G → Bool} → ((a b : G) → f a b ≡ h a b) → (a b : G) → f b a ≡ false → T (h a b)
+  worse_as agree a b worse = subst T (agree a b) (turned a b worse)
 
 -- rows with one key stand for one row, and their states exist alike
 pub key_row : {G : Type 0} (Fs : List ℕ) (a b : TableRow G) → key a ≡ key b → row_of Fs a ≡ row_of Fs b

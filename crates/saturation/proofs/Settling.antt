@@ -16,6 +16,10 @@ and_left : (x y : Bool) → T (x && y) → T x
 and_left true y h = tt
 and_left false y h = h
 
+-- what the queue's order takes is what the grade's own relation takes, where the two agree
+pub taken_as : {G : Type 0} {f h : G → G → Bool} {xs ys : List (Waiting G)} {k : ℕ} {e : Waiting G} → ((a b : G) → f a b ≡ h a b) → Taken (sooner f) xs ys k e → Taken (sooner h) xs ys k e
+taken_as {f = f} {h = h} {xs = xs} {ys = ys} {k = k} {e = e} agree taken = let same : f ≡ h = λ j a b. agree a b j in subst (λ z. Taken (sooner z) xs ys k e) same taken
+
 module _ {G : Type 0} {m : Ghosts G} {Fs : List ℕ} {ls : List Line} {rows : List (TableRow G)} {s n : ℕ} {queue after : List (Waiting G)} (t : Table m Fs ls rows s n queue) (e : Waiting G)
     (taken : Taken (sooner m.noworse) queue after (n - s) e) where
   a : ℕ
@@ -23,6 +27,9 @@ module _ {G : Type 0} {m : Ghosts G} {Fs : List ℕ} {ls : List Line} {rows : Li
 
   pub taken_within : e.row < n
   taken_within = ((t.holds e).0 taken.held).0
+
+  pub taken_low : e.row < length rows
+  taken_low = let lt = taken_within in let r = t.room in omega arith
 
   waits : (row_at m rows e.row).rank ≡ unranked
   waits = ((t.holds e).0 taken.held).1

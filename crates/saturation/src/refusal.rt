@@ -5,7 +5,7 @@ ghost use Rattle.saturation.specs.declared.refusal.SaturationRefusal.TheVariants
 use phases::refusal::PhaseRefusal;
 
 // Why a book's rows are not saturated.
-#[derive(Clone, Copy)]
+#[derive(Clone, Copy, Debug, PartialEq, Eq)]
 pub enum SaturationRefusal {
     // its phases are not listed
     Phases(PhaseRefusal),

@@ -1,5 +1,4 @@
 use Rattle.std.proofs.Common.{arith}
-use Rattle.std.proofs.lemmas.List.{length-take}
 use Rattle.std.proofs.lemmas.Option.{MatchOption-at_some}
 use Rattle.saturation.proofs.Finishing.{phases_listed}
 use Rattle.saturation.proofs.Finished.{complete_finished}

@@ -1,28 +1,10 @@
-use Rattle.std.proofs.Common.{T, get_or, sym, ap, subst}
+use Rattle.std.proofs.Common.{get_or, subst}
 use Rattle.book.specs.Lines.{lines}
 use Rattle.rows.specs.Rows.{order_row}
 use Rattle.rowtable.specs.Tables.{state_of}
-use Rattle.saturation.specs.Work.{row_by_order, Covers, Placed, Brings, TriedOne}
-use Rattle.saturation.proofs.Growth.{went_none}
-use Rattle.saturation.proofs.Brings.{offered, brings_one, later_one, starts_once}
+use Rattle.saturation.specs.Work.{row_by_order, Covers, Brings, TriedOne}
+use Rattle.saturation.proofs.Brings.{offered, brings_one, starts_once}
 use Rattle.saturation.proofs.work.Work.attempt_one.Goals as goal
-
-pub offer-requires : goal.offer-requires
-offer-requires g c =
-    let m = g.G.Grade in
-    let t = c.requires.table in
-    let o = c.args.order.now in
-    let x = c.args.last.now.row in
-    let is = c.order_row-row.ensures in
-    let new = brings_one t o c.requires.stands.0 c.args.wagon c.in-Some.place c.args.last.now.place x c.requires.stands.1 c.in-Some.ensures c.requires.last.here in
-    record {
-      table = t;
-      row = (ap (λ r. r.rank) is, subst (Placed m c.args.setting.now.phases.now) (sym is) new.placed);
-      later = λ p r h. subst (λ y. T (m.noworse r.grade y.grade)) (sym is) (later_one t (m.priced o.toll) c.requires.last p r h);
-    }
-
-pub returns-in-None-clause-ends : goal.returns-in-None-clause-ends
-returns-in-None-clause-ends g c = went_none c.requires.table (λ i st. absurd (c.in-None.ensures i st))
 
 pub returns-in-Some-clause-ends : goal.returns-in-Some-clause-ends
 returns-in-Some-clause-ends g c =

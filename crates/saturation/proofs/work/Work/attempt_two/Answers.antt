@@ -1,34 +1,19 @@
 use Rattle.std.proofs.Common.{T, get_or, sym, ap, ◌∙◌, subst}
-use mathlib.Core.Bool.{false≢true}
 use Rattle.book.specs.Lines.{lines}
 use Rattle.rows.specs.Rows.{order_row}
 use Rattle.rowtable.specs.Tables.{state_of}
-use Rattle.saturation.specs.Work.{row_by_order, Covers, Placed, BringsBoth, TriedTwo}
-use Rattle.saturation.proofs.Growth.{went_none}
+use Rattle.saturation.specs.Work.{row_by_order, Covers, BringsBoth, TriedTwo}
 use Rattle.saturation.proofs.Brings.{offered, brings_two, later_two, starts_once}
 use Rattle.saturation.proofs.work.Work.attempt_two.Goals as goal
 
-pub offer-requires : goal.offer-requires
-offer-requires g c =
+pub offer-requires-clause-later : goal.offer-requires-clause-later
+offer-requires-clause-later g c =
     let m = g.G.Grade in
-    let t = c.requires.table in
-    let p = c.args.order.now in
+    let o = c.args.order.now.line in
     let one = c.args.one.now in
     let next = c.args.next.now in
-    let i = c.in-Some.place in
-    let is = c.order_row-row.ensures ∙ ap (λ h. row_by_order m p.line i next.row.to h one.place next.place) c.joined-parts.ensures in
-    let new = brings_two t p.line c.requires.stands p.first p.second i one.place next.place one.row next.row p.laid c.in-Some.ensures (c.goes.ensures.0 c.if-not-goes.false) c.requires.settled.0 c.requires.settled.1 in
-    record {
-      table = t;
-      row = (ap (λ r. r.rank) is, subst (Placed m c.args.setting.now.phases.now) (sym is) new.placed);
-      later = λ p' r h. subst (λ z. T (m.noworse r.grade z.grade)) (sym is) (later_two t (m.priced p.line.toll) c.requires.last p' r h);
-    }
-
-pub returns-then-not-goes-clause-ends : goal.returns-then-not-goes-clause-ends
-returns-then-not-goes-clause-ends g c = went_none c.requires.table (λ i st go. absurd (false≢true (sym c.if-not-goes.true ∙ c.goes.ensures.1 go)))
-
-pub returns-in-None-clause-ends : goal.returns-in-None-clause-ends
-returns-in-None-clause-ends g c = went_none c.requires.table (λ i st go. absurd (c.in-None.ensures i st))
+    let is = c.order_row-row.ensures ∙ ap (λ h. row_by_order m o c.in-Some.place next.row.to h one.place next.place) c.joined-parts.ensures in
+    λ p r h. subst (λ z. T (m.noworse r.grade z.grade)) (sym is) (later_two c.requires.table (m.priced o.toll) c.requires.last p r h)
 
 pub returns-in-Some-clause-ends : goal.returns-in-Some-clause-ends
 returns-in-Some-clause-ends g c =

@@ -1,4 +1,4 @@
-use Rattle.std.proofs.Common.{below_more, ◌≡◌, ◌+◌, ◌<◌, ℕ, map, sym, ap, ◌∙◌, subst, arith, get_or}
+use Rattle.std.proofs.Common.{below_more, ◌+◌, ◌<◌, ℕ, map, sym, ap, ◌∙◌, subst, arith, get_or}
 use mathlib.Core.Bool.{false≢true}
 use Rattle.text.specs.Forms.{listed}
 use Rattle.book.specs.Lines.{lines}

@@ -1,4 +1,4 @@
-use Rattle.std.proofs.Common.{below_more, ◌+◌, ◌<◌, ℕ, sym, ◌∙◌, subst, arith}
+use Rattle.std.proofs.Common.{below_more, ◌+◌, ◌<◌, ℕ, sym, ◌∙◌, subst}
 use mathlib.Core.Bool.{false≢true}
 use Rattle.book.specs.Lines.{lines}
 use Rattle.saturation.specs.AtHand.{SameSlices, WentOf}

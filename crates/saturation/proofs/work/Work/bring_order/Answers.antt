@@ -1,18 +1,8 @@
-use Rattle.std.proofs.Common.{ℕ, ◌<◌, [], ◌∷◌, map, sym, ap, ◌∙◌, subst, ap₂, subst₂}
+use Rattle.std.proofs.Common.{ℕ, ◌<◌, sym, subst, subst₂}
 use Rattle.rowtable.specs.Reasons.{SettledAt}
 use Rattle.saturation.specs.Work.{TriedOne, TriedPair, TriedPairAt, TriedOrder}
-use Rattle.saturation.proofs.Growth.{went_none, ends_so}
-use Rattle.text.specs.Forms.{listed}
+use Rattle.saturation.proofs.Growth.{ends_so}
 use Rattle.saturation.proofs.work.Work.bring_order.Goals as goal
-
-pub returns-in-Zero-clause-ends : goal.returns-in-Zero-clause-ends
-returns-in-Zero-clause-ends g c =
-    let old = c.args.self.now in
-    went_none c.requires.table (subst (λ w. TriedOrder g.G.Grade c.args.setting.now.phases.now c.args.order.now w (SettledAt g.G.Grade old.rows.now old.found c.args.setting.now.settled) c.args.last.now.row old.rows.now old.found) (sym c.in-Zero.is) tt)
-
-pub attempt_one-requires : goal.attempt_one-requires
-attempt_one-requires g c =
-    record { table = c.requires.table; last = c.requires.last; stands = (c.requires.stands, ap (λ w. map (λ k. k.value) (listed w)) c.in-One.is ∙ ap (λ k. k ∷ []) (sym c.get.ensures)) }
 
 pub returns-in-One-clause-ends : goal.returns-in-One-clause-ends
 returns-in-One-clause-ends g c =

@@ -1,14 +1,11 @@
 use mathlib.Core.Bool.{false≢true}
-use Rattle.std.proofs.Common.{◌≡◌, ◌<◌, get_or, length, sym, ap, ◌∙◌, subst, inl, inr, arith, rules}
+use Rattle.std.proofs.Common.{get_or, sym, ap, ◌∙◌, subst, inr, arith}
 use Rattle.std.proofs.lemmas.List.{get_or_default}
-use Rattle.rowtable.specs.Tables.{blank_row, row_at}
+use Rattle.rowtable.specs.Tables.{blank_row}
 use Rattle.saturation.specs.Work.{Goes, TriedTwo, TriedPair, TriedPairAt}
 use Rattle.saturation.proofs.Growth.{went_none, went_on, full_on, ends_on, covers_later, at_none}
 use Rattle.saturation.proofs.Brings.{given_on, last_on}
 use Rattle.saturation.proofs.work.Work.bring_pair.Goals as goal
-
-pub offset_bounds-self-place : goal.offset_bounds-self-place
-offset_bounds-self-place g c = let r = c.requires.table.room in let w = c.requires.within in let lt : c.args.place < length c.args.self.now.rows.now = omega arith in search rules
 
 pub returns-then-other-setting-clause-ends : goal.returns-then-other-setting-clause-ends
 returns-then-other-setting-clause-ends g c =
@@ -31,14 +28,6 @@ returns-then-not-goes-2-clause-ends g c =
       (λ i st go. absurd (false≢true (sym c.if-not-goes.true ∙ c.goes.ensures.1 (subst (Goes l x) (sym (e ∙ h.here)) go)))),
       (λ i st go. absurd (false≢true (sym c.if-not-goes-2.true ∙ c.goes-then-not-goes.ensures.1 (subst (λ z. Goes l z x) (sym (e ∙ h.here)) go)))),
     ))
-
-pub attempt_two-requires : goal.attempt_two-requires
-attempt_two-requires g c =
-    let t = c.requires.table in
-    let r = t.room in
-    let w = c.requires.within in
-    let e = get_or_default c.args.self.now.rows.now c.args.place c.index-self-place.result (blank_row g.G.Grade.best) (omega arith) in
-    record { table = t; settled = (c.requires.last.here, record { within = w; here = sym e; ranked = omega arith }); last = inl c.requires.last; stands = c.requires.stands }
 
 pub returns-in_err-attempt_two-clause-ends : goal.returns-in_err-attempt_two-clause-ends
 returns-in_err-attempt_two-clause-ends g c =

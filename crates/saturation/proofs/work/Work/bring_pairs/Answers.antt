@@ -10,10 +10,8 @@ returns-then-wagon-order-2-clause-ends g c =
     let same = c.from-wagon.ensures in
     went_none c.requires.table (λ b h y at. ((λ i st go. absurd (c.if-wagon-order.true (same ∙ st.by))), (λ i st go. absurd (c.if-wagon-order-2.true (same ∙ go.by)))))
 
-pub bring_pair-requires : goal.bring_pair-requires
-bring_pair-requires g c =
-    let w = c.loop-place.invariant.1 in
-    record { table = w.table; last = last_on w.grown c.requires.last; stands = c.requires.stands; within = let more = w.grown.more in omega arith }
+pub bring_pair-requires-clause-last : goal.bring_pair-requires-clause-last
+bring_pair-requires-clause-last g c = last_on c.loop-place.invariant.1.grown c.requires.last
 
 pub returns-in_err-bring_pair-clause-ends : goal.returns-in_err-bring_pair-clause-ends
 returns-in_err-bring_pair-clause-ends g c =

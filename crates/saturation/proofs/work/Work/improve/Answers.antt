@@ -4,7 +4,7 @@ use Rattle.grade.specs.Waits.{sooner}
 use Rattle.grade.specs.declared.waiting.Waiting.{Waiting}
 use Rattle.queue.specs.Queues.{Holds, Replaced}
 use Rattle.rowtable.specs.Tables.{blank_row, row_at}
-use Rattle.saturation.proofs.Growth.{turned, old_held, went_better, went_none, key_row}
+use Rattle.saturation.proofs.Growth.{worse_as, old_held, went_better, went_none, key_row}
 use Rattle.saturation.proofs.work.Work.improve.Goals as goal
 
 pub offset_bounds-self-i-then-not-keeps : goal.offset_bounds-self-i-then-not-keeps
@@ -21,8 +21,7 @@ requeue-requires-clause-old g c =
     let low = c.requires.same.0 in
     let x : get_or w.rows.now i c.index-self-i.result ≡ row_at m w.rows.now i = get_or_default w.rows.now i c.index-self-i.result (blank_row m.best) (omega arith) in
     let gone = c.if-not-keeps.ensures.gone refl in
-    let same : g.G.TotalOrder.before ≡ m.noworse = λ j a b. c.agrees.ensures a b j in
-    let worse : T (m.noworse c.args.row.grade (row_at m w.rows.now i).grade) = subst (λ f. T (f c.args.row.grade (row_at m w.rows.now i).grade)) same (turned g.G.TotalOrder.before g.met.G.TotalOrder.total c.args.row.grade (row_at m w.rows.now i).grade (subst (λ y. g.G.TotalOrder.before y.grade c.args.row.grade ≡ false) x gone.1)) in
+    let worse = worse_as g.G.TotalOrder.before g.met.G.TotalOrder.total c.agrees.ensures c.args.row.grade (row_at m w.rows.now i).grade (subst (λ y. g.G.TotalOrder.before y.grade c.args.row.grade ≡ false) x gone.1) in
     let held = old_held t i c.args.row low c.requires.same.1 c.requires.row.0 (subst (λ y. s ≤ y.rank) x gone.0) worse in
     subst (λ y. Holds w.waiting.now (w.found - s) (record { grade = y.grade; row = i })) (sym x) held
 
@@ -38,7 +37,7 @@ returns-then-not-keeps-clause-went g c =
     let x : get_or w.rows.now i c.index-self-i.result ≡ row_at m w.rows.now i = get_or_default w.rows.now i c.index-self-i.result (blank_row m.best) (omega arith) in
     let gone = c.if-not-keeps.ensures.gone refl in
     let same : g.G.TotalOrder.before ≡ m.noworse = λ j a b. c.agrees.ensures a b j in
-    let worse : T (m.noworse c.args.row.grade (row_at m w.rows.now i).grade) = subst (λ f. T (f c.args.row.grade (row_at m w.rows.now i).grade)) same (turned g.G.TotalOrder.before g.met.G.TotalOrder.total c.args.row.grade (row_at m w.rows.now i).grade (subst (λ y. g.G.TotalOrder.before y.grade c.args.row.grade ≡ false) x gone.1)) in
+    let worse = worse_as g.G.TotalOrder.before g.met.G.TotalOrder.total c.agrees.ensures c.args.row.grade (row_at m w.rows.now i).grade (subst (λ y. g.G.TotalOrder.before y.grade c.args.row.grade ≡ false) x gone.1) in
     let new : Waiting g.row.G.Denot = record { grade = c.args.row.grade; row = i } in
     let replaced : Replaced (sooner m.noworse) w.waiting.now c.requeue.new.waiting (w.found - s) (record { grade = (row_at m w.rows.now i).grade; row = i }) new =
     subst (λ f. Replaced (sooner f) w.waiting.now c.requeue.new.waiting (w.found - s) (record { grade = (row_at m w.rows.now i).grade; row = i }) new) same
