@@ -1,5 +1,5 @@
 -- Which numbers are named, which are accepted, and the least that is named only. Assumes nothing.
-use Rattle.std.proofs.Common.{◌≡◌, ℕ, ◌+◌, ◌/◌, ◌%◌, ◌^◌, ◌<◌, ◌≤◌, ◌⊎◌, List, length, get_or, take, is_some, Some, None, Option, MatchOption, Decides, sym, refl, ap, ◌∙◌, subst, inl, inr, ⊎_elim, lt_of_lt_of_le, arith}
+use Rattle.std.proofs.Common.{◌≡◌, ℕ, ◌+◌, ◌/◌, ◌%◌, ◌^◌, ◌<◌, ◌⊎◌, List, length, get_or, take, is_some, Some, None, Option, MatchOption, Decides, sym, refl, ap, ◌∙◌, subst, inl, inr, ⊎_elim, lt_of_lt_of_le, arith}
 use native.Mathlib.Nat.{div-eq_of_lt, pow-le-pow_right}
 use Rattle.std.specs.List.{ContainsAt as Has}
 use Rattle.std.proofs.ByRecursion.{all-has}
@@ -52,10 +52,7 @@ module _ (b : Book) (n : ℕ) (lt : n < 64) where
 -- ---- the least of some numbers
 
 module _ (ls : List Line) where
-  pub lowered_same : (P : ℕ → Type 0) (a : Option (UpTo 63)) → ((m : ℕ) → P m → (Accepted ls m → ⊥) → below a ≤ m) → Lowered ls P a a
-  lowered_same P a all = record { low = omega arith; one = inl refl; all = all }
-
-  pub lowered_like : (P Q : ℕ → Type 0) (a r : Option (UpTo 63)) → ((m : ℕ) → P m → Q m) → ((m : ℕ) → Q m → (Accepted ls m → ⊥) → P m) → Lowered ls P a r → Lowered ls Q a r
+  lowered_like : (P Q : ℕ → Type 0) (a r : Option (UpTo 63)) → ((m : ℕ) → P m → Q m) → ((m : ℕ) → Q m → (Accepted ls m → ⊥) → P m) → Lowered ls P a r → Lowered ls Q a r
   lowered_like P Q a r to from h = record {
     low = h.low;
     one = ⊎_elim inl (λ p. inr (to (below r) p.0, p.1)) h.one;
