@@ -15,6 +15,7 @@ use rowtable::row::TableState;
 
 impl<'a, G: Grade> SoundRows<'a, G> {
     // Puts the rows of a best path from a state by the lane on the list, if there is one: a row for each wagon, the first on top.
+    // It calls itself for each wagon: of what a loop writes through a reversed iterator a proof knows nothing.
     pub(crate) fn lay(&self, state: TableState, lane: &[u8], cells: &[Cell<G>], list: &mut [usize])
         requires exists { Exists self.now.phases.now state }
         requires places { length list.old ≡ length lane.now }

@@ -71,7 +71,7 @@ impl<'a, G: Grade> SoundRows<'a, G> {
         16 * self.phases.len() + 64
     }
 
-    // The place of a state in its layer.
+    // The place of a state in its layer. That the state exists is asked for and not in its type: it hangs on the phases.
     pub(crate) fn index(&self, state: TableState) -> usize
         requires { Exists self.now.phases.now state }
         ensures is { result ≡ index self.now.phases.now state }
