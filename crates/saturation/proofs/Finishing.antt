@@ -1,5 +1,6 @@
 -- Nothing waits: the table holds exactly the saturated rows.
-use Rattle.std.proofs.Common.{◌≡◌, ℕ, ◌-◌, ◌<◌, ◌≤◌, min, List, length, get_or, take, Some, None, Option, MatchOption, sym, refl, ap, ap₂, ◌∙◌, subst, ⊎_elim, arith}
+use Rattle.std.proofs.Common.{◌≡◌, ℕ, ◌-◌, ◌<◌, ◌≤◌, min, List, length, get_or, take, Some, None, Option, MatchOption, sym, refl, ap, ap₂, ◌∙◌, subst, ⊎_elim, arith, zero, suc, [], ◌∷◌}
+use Rattle.std.specs.List.{FoldsTo}
 use Rattle.std.proofs.lemmas.List.{get_or_default, get_or-take, length-take}
 use Rattle.grade.specs.declared.grade.Grade.{Ghosts}
 use Rattle.grade.specs.declared.waiting.Waiting.{Waiting}
@@ -94,6 +95,12 @@ pub filled_ends : {G : Type 0} (m : Ghosts G) (Fs : List ℕ) (ls : List Line) (
     → MatchOption r (Outnumber (Derivation (row_rules ls)) (min (length old) (length waited))) (λ _. Complete m Fs ls (min (length old) (length waited)) new n)
 filled_ends m Fs ls old mid new waited q queue n None long wide out = subst (Outnumber (Derivation (row_rules ls))) (ap₂ min long wide) out
 filled_ends m Fs ls old mid new waited q queue n (Some _) long wide (worked, long_2, wide_2) = subst (λ places. Complete m Fs ls places new n) (ap₂ min (long_2 ∙ long) (wide_2 ∙ wide)) (finished worked refl)
+
+-- what each call gives stands at each place
+pub filled_with : {X F : Type 0} (R : F → X → F → Type 0) (P : X → Type 0) → ((p : F) (x : X) (q : F) → R p x q → P x) → (xs : List X) (p q : F) → FoldsTo R p xs q → (k : ℕ) (d : X) → P d → P (get_or xs k d)
+filled_with R P each [] p q ran k d at = at
+filled_with R P each (x ∷ xs) p q (j, here, rest) zero d at = each p x j here
+filled_with R P each (x ∷ xs) p q (j, here, rest) (suc k) d at = filled_with R P each xs j q rest k d at
 
 -- the opened phases as a slice of their table
 pub phases_listed : {ls : List Line} (table : List ℕ) (count : ℕ) → count ≤ length table → Filled (Opened ls) (λ k. get_or table k 0) count → Filled (Opened ls) (λ k. get_or (take count table) k 0) (length (take count table))

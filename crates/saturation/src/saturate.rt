@@ -23,10 +23,7 @@ use rowtable::row::TableRow;
 fn clear<G: Grade>(rows: &mut [TableRow<G>])
     ensures { (k : ℕ) → row_at G.Grade.own rows.new k ≡ blank_row G.Grade.best }
 {
-    // no `fill`: that clones, and of the clone of any grade it is not known that it is the same grade
-    for row in rows.iter_mut() {
-        *row = blank_row();
-    }
+    rows.fill_with(|| blank_row());
 }
 
 impl<G: Grade> Work<'_, G> {
