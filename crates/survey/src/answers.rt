@@ -3,12 +3,10 @@ use crate::ask::Ask;
 use crate::blank::{blank_cells, blank_rows, blank_waiting};
 use crate::options::Options;
 use crate::runs::print_runs;
-use crate::shown::Shown;
 use book::tables::Book;
 use grade::grade::Grade;
 use paths::best::best_way;
 use paths::refusal::PathRefusal;
-use phases::refusal::PhaseRefusal;
 use phases::table::Phases;
 use rowtable::row::{TableRow, TableState};
 use saturation::book_rows::saturate_book;
@@ -20,7 +18,7 @@ use std::alloc::{AllocError, Global};
 fn state_text(heap: Global, phases: &Phases, state: TableState) -> Result<String, AllocError> {
     match state {
         TableState::Node(node) => format!(in heap; "node {node}"),
-        TableState::Head(mode, place) => match phases.table.get(place as usize) {
+        TableState::Head(mode, place) => match phases.table.get(usize::from(place)) {
             Some(phase) => format!(in heap; "head {mode} {phase}"),
             None => format!(in heap; "head {mode} at place {place}"),
         },
@@ -28,7 +26,7 @@ fn state_text(heap: Global, phases: &Phases, state: TableState) -> Result<String
 }
 
 // The rows as lines of text, in the order of their bytes: the order in the table is free.
-fn row_lines<G: Grade + Shown>(
+fn row_lines<G: Grade + Into<u32>>(
     heap: Global,
     done: &Saturation,
     rows: &[TableRow<G>],
@@ -38,14 +36,14 @@ fn row_lines<G: Grade + Shown>(
         let from = state_text(heap, &done.phases, row.from)?;
         let to = state_text(heap, &done.phases, row.to)?;
         let wagon = row.wagon;
-        let grade = row.grade.shown();
+        let grade: u32 = row.grade.into();
         lines.push(format!(in heap; "{from} by {wagon} to {to}: {grade}")?)?;
     }
     lines.sort()?;
     Ok(lines)
 }
 
-fn print_rows<G: Grade + Shown>(
+fn print_rows<G: Grade + Into<u32>>(
     rt: &HostRuntime,
     done: &Saturation,
     rows: &[TableRow<G>],
@@ -70,7 +68,7 @@ pub fn print_path_refusal(rt: &HostRuntime, refusal: PathRefusal) -> anyhow::Res
     Ok(())
 }
 
-fn print_ways<G: Grade + Shown>(
+fn print_ways<G: Grade + Into<u32>>(
     rt: &HostRuntime,
     book: &Book,
     asks: &[Ask],
@@ -89,7 +87,7 @@ fn print_ways<G: Grade + Shown>(
         );
         match answer {
             Ok(grade) => {
-                let shown = grade.shown();
+                let shown: u32 = grade.into();
                 println!(rt; "way {shown}")?;
             }
             Err(refusal) => print_path_refusal(rt, refusal)?,
@@ -99,18 +97,14 @@ fn print_ways<G: Grade + Shown>(
 }
 
 fn print_refusal(rt: &HostRuntime, refusal: SaturationRefusal) -> anyhow::Result<()> {
-    match refusal {
-        SaturationRefusal::Phases(PhaseRefusal::NotAccepted(number)) => {
-            println!(rt; "refused 6 at {number}")?
-        }
-        SaturationRefusal::Phases(PhaseRefusal::TooMany) => println!(rt; "refused 7 at 0")?,
-        SaturationRefusal::TooManyRows => println!(rt; "refused 8 at 0")?,
-    }
+    let number = refusal.number();
+    let place = refusal.place();
+    println!(rt; "refused {number} at {place}")?;
     Ok(())
 }
 
 // Prints the rows of the book and the answers to the asks, or a run for each ask, or why the rows are not worked out.
-pub fn print_answers<G: Grade + Shown>(
+pub fn print_answers<G: Grade + Into<u32>>(
     rt: &HostRuntime,
     book: &Book,
     asks: &[Ask],

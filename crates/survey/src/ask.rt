@@ -1,6 +1,16 @@
 use phases::position::Position;
 use std::alloc::{AllocError, Global};
 
+// The parts of an ask, in their order.
+#[derive(Clone, Copy)]
+enum Part {
+    Mode,
+    Phase,
+    Lane,
+}
+
+const PARTS: [Part; 3] = [Part::Mode, Part::Phase, Part::Lane];
+
 // A position that is asked about.
 #[derive(Drop)]
 pub struct Ask {
@@ -18,16 +28,15 @@ impl Ask {
         }
     }
 
-    // Takes a number of the part in: the mode is part 0, the phase 1, the lane 2. False where there is no such number in that part.
-    fn take(&mut self, part: usize, number: u8) -> Result<bool, AllocError> {
+    // Takes a number of the part in. False where there is no such number in a phase.
+    fn take(&mut self, part: Part, number: u8) -> Result<bool, AllocError> {
         match part {
-            0 => self.mode = number,
-            1 => match 1u64.checked_shl(u32::from(number)) {
+            Part::Mode => self.mode = number,
+            Part::Phase => match 1u64.checked_shl(u32::from(number)) {
                 Some(bit) => self.phase |= bit,
                 None => return Ok(false),
             },
-            2 => self.lane.push(number)?,
-            _ => return Ok(false),
+            Part::Lane => self.lane.push(number)?,
         }
         Ok(true)
     }
@@ -40,19 +49,17 @@ pub fn read_ask(heap: Global, text: &str) -> Result<Option<Ask>, AllocError> {
         phase: 0,
         lane: Vec::new(heap),
     };
-    for (part, piece) in text.split('(').enumerate() {
+    for (place, piece) in text.split('(').enumerate() {
         for word in piece.split_whitespace() {
             let digits = word.trim_end_matches(')');
             if digits.is_empty() {
                 continue;
             }
-            match digits.parse::<u8>() {
-                Ok(number) => {
-                    if !ask.take(part, number)? {
-                        return Ok(None);
-                    }
-                }
-                Err(_) => return Ok(None),
+            let (Some(part), Ok(number)) = (PARTS.get(place), digits.parse::<u8>()) else {
+                return Ok(None);
+            };
+            if !ask.take(*part, number)? {
+                return Ok(None);
             }
         }
     }

@@ -6,16 +6,8 @@ use rowtable::blank::blank_row;
 use rowtable::row::TableRow;
 use std::alloc::{AllocError, Global};
 
-fn filled<T: Copy>(heap: Global, blank: T, places: usize) -> Result<Vec<T>, AllocError> {
-    let mut table = Vec::with_capacity(heap, places)?;
-    for _ in 0..places {
-        table.push(blank)?;
-    }
-    Ok(table)
-}
-
 pub fn blank_rows<G: Grade>(heap: Global, places: usize) -> Result<Vec<TableRow<G>>, AllocError> {
-    filled(heap, blank_row(), places)
+    Ok(vec![in heap; blank_row(); places]?)
 }
 
 pub fn blank_waiting<G: Grade>(heap: Global, places: usize) -> Result<Vec<Waiting<G>>, AllocError> {
@@ -23,15 +15,15 @@ pub fn blank_waiting<G: Grade>(heap: Global, places: usize) -> Result<Vec<Waitin
         grade: G::best_grade(),
         row: 0,
     };
-    filled(heap, blank, places)
+    Ok(vec![in heap; blank; places]?)
 }
 
 // A list for a lane of 32 wagons and so many rows.
 pub fn blank_list(heap: Global, rows: usize) -> Result<Vec<usize>, AllocError> {
-    filled(heap, 0usize, rows.saturating_add(32))
+    Ok(vec![in heap; 0usize; rows.saturating_add(32)]?)
 }
 
 // Cells for a lane of 32 wagons and 32 phases: 33 layers, each with 16 modes in every phase, and 64 nodes.
 pub fn blank_cells<G: Grade>(heap: Global) -> Result<Vec<Cell<G>>, AllocError> {
-    filled(heap, None, 33 * 576)
+    Ok(vec![in heap; None; 33 * 576]?)
 }

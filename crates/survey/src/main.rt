@@ -11,7 +11,6 @@ mod ask;
 mod blank;
 mod options;
 mod runs;
-mod shown;
 mod times;
 
 use ask::{Ask, read_ask};
@@ -20,7 +19,6 @@ use grade::class::Class;
 use grade::grade::Grade;
 use grade::minutes::Minutes;
 use options::{Options, read_options};
-use shown::Shown;
 use std::io::{BufRead, BufReader};
 
 // Enters a line of the book; prints a refusal.
@@ -48,7 +46,7 @@ fn read_input(rt: &HostRuntime, book: &mut Book, asks: &mut Vec<Ask>) -> anyhow:
     Ok(())
 }
 
-fn work<G: Grade + Shown>(rt: &HostRuntime, options: Options) -> anyhow::Result<()> {
+fn work<G: Grade + Into<u32>>(rt: &HostRuntime, options: Options) -> anyhow::Result<()> {
     let mut book = Book::new();
     let mut asks = Vec::new(rt.alloc());
     read_input(rt, &mut book, &mut asks)?;

@@ -2,7 +2,6 @@
 use crate::answers::print_path_refusal;
 use crate::ask::Ask;
 use crate::blank::{blank_cells, blank_list};
-use crate::shown::Shown;
 use book::tables::Book;
 use grade::grade::Grade;
 use paths::laid::lay_out;
@@ -38,8 +37,9 @@ fn print_moves<G: Grade>(
                 println!(rt; "arrived")?;
                 return Ok(());
             }
-            Err(_) => {
-                println!(rt; "refused 14")?;
+            Err(refusal) => {
+                let number = refusal.number();
+                println!(rt; "refused {number}")?;
                 return Ok(());
             }
         }
@@ -49,7 +49,7 @@ fn print_moves<G: Grade>(
 }
 
 // Prints for each ask the best grade and the moves of a run that has it.
-pub fn print_runs<G: Grade + Shown>(
+pub fn print_runs<G: Grade + Into<u32>>(
     rt: &HostRuntime,
     book: &Book,
     asks: &[Ask],
@@ -70,7 +70,7 @@ pub fn print_runs<G: Grade + Shown>(
         );
         match answer {
             Ok(grade) => {
-                let shown = grade.shown();
+                let shown: u32 = grade.into();
                 println!(rt; "way {shown}")?;
                 let start = Stage {
                     mode: ask.mode,

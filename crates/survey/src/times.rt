@@ -1,7 +1,6 @@
 // How long working out and asking take.
 use crate::ask::Ask;
 use crate::blank::{blank_cells, blank_rows, blank_waiting};
-use crate::shown::Shown;
 use anyhow::anyhow;
 use book::tables::Book;
 use grade::grade::Grade;
@@ -13,7 +12,7 @@ use saturation::saturated::Saturation;
 use std::time::Instant;
 
 // Answers all asks once. Gives the sum of the grades, so that both implementations can be seen to do the same work.
-fn ask_all<G: Grade + Shown>(
+fn ask_all<G: Grade + Into<u32>>(
     book: &Book,
     asks: &[Ask],
     done: &Saturation,
@@ -31,13 +30,13 @@ fn ask_all<G: Grade + Shown>(
             scratch,
         );
         if let Ok(grade) = answer {
-            sum = sum.wrapping_add(u64::from(grade.shown()));
+            sum = sum.wrapping_add(u64::from(grade.into()));
         }
     }
     sum
 }
 
-fn print_asking<G: Grade + Shown>(
+fn print_asking<G: Grade + Into<u32>>(
     rt: &HostRuntime,
     book: &Book,
     asks: &[Ask],
@@ -60,7 +59,7 @@ fn print_asking<G: Grade + Shown>(
 // Prints two times that the process's clock gives. Working out is one call of `saturate_book`, over tables that have been made:
 // listing the phases and filling the row table. Asking is all asks in turn, `rounds` times, over that table.
 // Reading, making the tables and printing are in neither.
-pub fn print_times<G: Grade + Shown>(
+pub fn print_times<G: Grade + Into<u32>>(
     rt: &HostRuntime,
     book: &Book,
     asks: &[Ask],
