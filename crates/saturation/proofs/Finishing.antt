@@ -17,7 +17,7 @@ use Rattle.rows.proofs.Graded.{laws_of}
 use Rattle.rowtable.specs.declared.row.TableRow.{TableRow}
 use Rattle.rowtable.specs.Tables.{Held, row_of, blank_row, row_at}
 use Rattle.rowtable.specs.Reasons.{SettledAt}
-use Rattle.saturation.specs.Work.{unranked, WaitsAt, Has, Table, Worked, Turned}
+use Rattle.saturation.specs.Work.{unranked, WaitsAt, Has, Table, Worked, Proceeded}
 use Rattle.saturation.specs.Complete.{Complete}
 use Rattle.saturation.proofs.Turns.{key_once}
 
@@ -91,10 +91,12 @@ module _ {G : Type 0} {m : Ghosts G} {Fs : List ℕ} {ls : List Line} {rows : Li
   }
 
 -- all rows are settled, as begin and the turns leave them
-pub filled_ends : {G : Type 0} (m : Ghosts G) (Fs : List ℕ) (ls : List Line) (old mid new : List (TableRow G)) (waited q queue : List (Waiting G)) (n : ℕ) (r : Option (Unit {0})) → length mid ≡ length old → length q ≡ length waited → Turned m Fs ls mid q n new n queue r
+pub filled_ends : {G : Type 0} (m : Ghosts G) (Fs : List ℕ) (ls : List Line) (old mid new : List (TableRow G)) (waited q queue : List (Waiting G)) (n : ℕ) (r : Option ℕ) → length mid ≡ length old → length q ≡ length waited → Proceeded m Fs ls mid q 0 (length mid) new n queue r
     → MatchOption r (Outnumber (Derivation (row_rules ls)) (min (length old) (length waited))) (λ _. Complete m Fs ls (min (length old) (length waited)) new n)
 filled_ends m Fs ls old mid new waited q queue n None long wide out = subst (Outnumber (Derivation (row_rules ls))) (ap₂ min long wide) out
-filled_ends m Fs ls old mid new waited q queue n (Some _) long wide (worked, long_2, wide_2) = subst (λ places. Complete m Fs ls places new n) (ap₂ min (long_2 ∙ long) (wide_2 ∙ wide)) (finished worked refl)
+filled_ends m Fs ls old mid new waited q queue n (Some s) long wide (worked, long_2, wide_2, end) =
+    let all : s ≡ n = ⊎_elim (λ e. let a = worked.table.in_range in let b = worked.table.room in omega arith) (λ e. e.0) end in
+    subst (λ places. Complete m Fs ls places new n) (ap₂ min (long_2 ∙ long) (wide_2 ∙ wide)) (finished worked all)
 
 -- what each call gives stands at each place
 pub filled_with : {X F : Type 0} (R : F → X → F → Type 0) (P : X → Type 0) → ((p : F) (x : X) (q : F) → R p x q → P x) → (xs : List X) (p q : F) → FoldsTo R p xs q → (k : ℕ) (d : X) → P d → P (get_or xs k d)

@@ -7,7 +7,7 @@ use Rattle.rowtable.specs.Reasons.{SettledAt}
 use Rattle.saturation.specs.declared.premise.Premise.{Premise}
 use Rattle.saturation.specs.declared.setting.Setting.{Setting}
 use Rattle.saturation.specs.declared.work.Work.{Work}
-use Rattle.saturation.specs.Work.{Table, Later, Last, Went, Ends, Brings, BringsBoth, Begins, Worked, Settles, Turned}
+use Rattle.saturation.specs.Work.{Table, Later, Last, Went, Ends, Brings, BringsBoth, Begins, Worked, Settles, Turned, Proceeded}
 
 -- the same slices are lent
 pub record SameSlices {G : Type 0} (old new : Work G) : Type 0 where
@@ -54,3 +54,7 @@ module _ {G : Type 0} (m : Ghosts G) (e : Setting) where
 
   abbrev pub TurnedOf : Work G → ℕ → Work G → Option (Unit {0}) → Type 0
   TurnedOf old s new r = Turned m e.phases.now (lines e.book.now) old.rows.now old.waiting.now s new.rows.now new.found new.waiting.now r
+
+  -- how settling so many more rows ends
+  abbrev pub ProceededOf : Work G → ℕ → Work G → Option ℕ → Type 0
+  ProceededOf old count new r = Proceeded m e.phases.now (lines e.book.now) old.rows.now old.waiting.now e.settled count new.rows.now new.found new.waiting.now r

@@ -224,3 +224,9 @@ module _ {G : Type 0} (m : Ghosts G) where
     abbrev pub Turned : (ls : List Line) (old : List (TableRow G)) (waited : List (Waiting G)) (s : ℕ) (new : List (TableRow G)) (n : ℕ) (queue : List (Waiting G)) → Option (Unit {0}) → Type 0
     Turned ls old waited s new n queue r =
         MatchOption r (Outnumber (Derivation (row_rules ls)) (min (length old) (length waited))) (λ _. Worked ls new s n queue × (length new ≡ length old) × (length queue ≡ length waited))
+
+    -- how settling so many more rows ends: so many are settled, or all; or the saturated rows outnumber the places
+    abbrev pub Proceeded : (ls : List Line) (old : List (TableRow G)) (waited : List (Waiting G)) (s count : ℕ) (new : List (TableRow G)) (n : ℕ) (queue : List (Waiting G)) → Option ℕ → Type 0
+    Proceeded ls old waited s count new n queue r =
+        MatchOption r (Outnumber (Derivation (row_rules ls)) (min (length old) (length waited)))
+        (λ q. Worked ls new q n queue × (length new ≡ length old) × (length queue ≡ length waited) × ((q ≡ s + count) ⊎ ((q ≡ n) × (q ≤ s + count))))

@@ -37,7 +37,9 @@ impl<G: Grade> Work<'_, G> {
             (λ _. Complete G.Grade.own setting.now.phases.now (lines setting.now.book.now) (min (length self.old.rows.now) (length self.old.waiting.now)) self.new.rows.now self.new.found) }
     {
         self.begin(setting)?;
-        self.settle_all(setting)
+        let places = self.rows.len();
+        self.proceed(setting, places)?;
+        Some(())
     }
 }
 

@@ -1,7 +1,7 @@
 // Settling rows, best grade first.
 ghost use Rattle.std.specs.Prelude.{◌≡◌, ℕ, ◌+◌, ◌<◌, MatchOption};
 ghost use Rattle.rowtable.specs.Tables.{row_at};
-ghost use Rattle.saturation.specs.AtHand.{SameSlices, TableOf, SettlesOf, WorkedOf, TurnedOf};
+ghost use Rattle.saturation.specs.AtHand.{SameSlices, TableOf, SettlesOf, WorkedOf, TurnedOf, ProceededOf};
 
 use crate::premise::Premise;
 use crate::setting::Setting;
@@ -41,15 +41,18 @@ impl<G: Grade> Work<'_, G> {
         self.bring(&after, &last)
     }
 
-    // Settles all rows that wait, best grade first. None where not all that they bring has a place.
-    pub(crate) fn settle_all(&mut self, setting: &Setting) -> Option<()>
+    // Settles `count` more rows, best grade first, or all where there are fewer, and tells how many are settled then. None where not
+    // all that they bring has a place.
+    pub(crate) fn proceed(&mut self, setting: &Setting, count: usize) -> Option<usize>
         requires { WorkedOf G.Grade.own setting.now setting.now.settled self.old }
         ensures slices { SameSlices self.old self.new }
-        ensures turned { TurnedOf G.Grade.own setting.now self.old self.new.found self.new result }
+        ensures proceeded { ProceededOf G.Grade.own setting.now self.old count self.new result }
     {
         let mut settled = setting.settled;
-        // no range: a turn may add rows
-        while settled < self.found {
+        for done in 0..count {
+            if settled == self.found {
+                break;
+            }
             let before = Setting {
                 book: setting.book,
                 phases: setting.phases,
@@ -58,6 +61,6 @@ impl<G: Grade> Work<'_, G> {
             self.turn(&before)?;
             settled += 1;
         }
-        Some(())
+        Some(settled)
     }
 }
