@@ -6,11 +6,10 @@ ghost use Rattle.saturation.specs.Work.{key};
 use grade::grade::Grade;
 use rowtable::row::TableRow;
 
-// The wagon first: it tells most rows apart by one byte.
 fn same_key<G: Grade>(a: &TableRow<G>, b: &TableRow<G>) -> bool
     ensures { Decides result (key a.now ≡ key b.now) }
 {
-    a.wagon == b.wagon && a.from == b.from && a.to == b.to
+    a.from == b.from && a.wagon == b.wagon && a.to == b.to
 }
 
 // The place of the first row with the key of `wanted`.
