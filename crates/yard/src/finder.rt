@@ -12,7 +12,7 @@ use rowtable::blank::blank_row;
 use rowtable::row::TableRow;
 use saturation::book_rows::saturate_book;
 use saturation::refusal::SaturationRefusal;
-use std::alloc::{AllocError, Global};
+use std::alloc::Global;
 use std::test::*;
 use unfolding::stage::{Shown, Stage, UnfoldRefusal};
 use unfolding::unfold::unfold;
@@ -41,14 +41,6 @@ pub fn read(text: &str) -> Result<Book, Fail> {
     Ok(book)
 }
 
-fn filled<T: Copy>(heap: Global, place: T, places: usize) -> Result<Vec<T>, AllocError> {
-    let mut table = Vec::with_capacity(heap, places)?;
-    for _ in 0..places {
-        table.push(place)?;
-    }
-    Ok(table)
-}
-
 fn unused<G: Grade>() -> Waiting<G> {
     Waiting {
         grade: G::best_grade(),
@@ -71,19 +63,17 @@ pub fn counts<G: Grade>(
     table: usize,
     waiting: usize,
 ) -> Result<Result<(usize, usize), SaturationRefusal>, Fail> {
-    let mut rows = filled(heap, blank_row::<G>(), table)?;
-    let mut places = filled(heap, unused::<G>(), waiting)?;
-    match saturate_book(book, rows.as_mut_slice(), places.as_mut_slice()) {
-        Ok(done) => Ok(Ok((done.phases.count, done.rows))),
-        Err(refusal) => Ok(Err(refusal)),
-    }
+    let mut rows = vec![in heap; blank_row::<G>(); table]?;
+    let mut places = vec![in heap; unused::<G>(); waiting]?;
+    let answer = saturate_book(book, rows.as_mut_slice(), places.as_mut_slice());
+    Ok(answer.map(|done| (done.phases.count, done.rows)))
 }
 
 impl<G: Grade> Finder<G> {
     pub fn new(heap: Global, text: &str) -> Result<Finder<G>, Fail> {
         let book = read(text)?;
-        let mut rows = filled(heap, blank_row::<G>(), 64)?;
-        let mut places = filled(heap, unused::<G>(), 64)?;
+        let mut rows = vec![in heap; blank_row::<G>(); 64]?;
+        let mut places = vec![in heap; unused::<G>(); 64]?;
         match saturate_book(&book, rows.as_mut_slice(), places.as_mut_slice()) {
             Ok(done) => Ok(Finder {
                 book,
@@ -102,18 +92,15 @@ impl<G: Grade> Finder<G> {
         ask: Position,
         scratch: usize,
     ) -> Result<Result<G, PathRefusal>, Fail> {
-        let mut cells = filled(heap, None::<Step<G>>, scratch)?;
-        match best_way(
+        let mut cells = vec![in heap; None::<Step<G>>; scratch]?;
+        Ok(best_way(
             &self.book,
             &self.phases,
             self.rows.as_slice(),
             self.count,
             &ask,
             cells.as_mut_slice(),
-        ) {
-            Ok(grade) => Ok(Ok(grade)),
-            Err(refusal) => Ok(Err(refusal)),
-        }
+        ))
     }
 
     // A path of the best grade, laid out on the list.
@@ -123,9 +110,9 @@ impl<G: Grade> Finder<G> {
         ask: Position,
         places: Places,
     ) -> Result<Result<(G, Vec<usize>), PathRefusal>, Fail> {
-        let mut cells = filled(heap, None::<Step<G>>, places.scratch)?;
-        let mut list = filled(heap, 0usize, places.list)?;
-        match lay_out(
+        let mut cells = vec![in heap; None::<Step<G>>; places.scratch]?;
+        let mut list = vec![in heap; 0usize; places.list]?;
+        let answer = lay_out(
             &self.book,
             &self.phases,
             self.rows.as_slice(),
@@ -133,10 +120,8 @@ impl<G: Grade> Finder<G> {
             &ask,
             cells.as_mut_slice(),
             list.as_mut_slice(),
-        ) {
-            Ok(grade) => Ok(Ok((grade, list))),
-            Err(refusal) => Ok(Err(refusal)),
-        }
+        );
+        Ok(answer.map(|grade| (grade, list)))
     }
 
     pub fn next(
