@@ -16,7 +16,8 @@ fn same_key<G: Grade>(a: &TableRow<G>, b: &TableRow<G>) -> bool
 pub(crate) fn find<G: Grade>(rows: &[TableRow<G>], wanted: &TableRow<G>) -> Option<usize>
     ensures { MatchOption result
         ((k : ℕ) → k < length rows.now → key (row_at G.Grade.own rows.now k) ≢ key wanted.now)
-        (λ i. (i < length rows.now) × (key (row_at G.Grade.own rows.now i) ≡ key wanted.now)) }
+        (λ i. (i < length rows.now) × (key (row_at G.Grade.own rows.now i) ≡ key wanted.now)
+        × ((k : ℕ) → k < i → key (row_at G.Grade.own rows.now k) ≢ key wanted.now)) }
 {
     rows.iter().position(|row| same_key(row, wanted))
 }
