@@ -46,7 +46,7 @@ impl MoveRefusal {
         }
     }
 
-    // The byte of the text, counted from 1, or the number that is not accepted, or 0.
+    // The byte of the text, counted from 1, or the number that is not accepted, or 0: a number in any case, as C is told it.
     pub fn place(&self) -> usize
         ensures { result ≡ refusal_place self.now }
     {

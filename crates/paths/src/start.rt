@@ -28,8 +28,10 @@ pub(crate) fn start_state(
     let Some(place) = phases.phase_index(position.phase) else {
         return Err(PathRefusal::NotOpened);
     };
+    // the width of a layer, as `SoundRows::width` has it: here the rows are not looked at yet
     if places < (position.lane.len() + 1) * (16 * phases.count + 64) {
         return Err(PathRefusal::ScratchShort);
     }
+    // a cast, which the table of 32 phases makes safe
     Ok(TableState::Head(position.mode, place as u8))
 }

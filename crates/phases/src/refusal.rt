@@ -23,7 +23,7 @@ impl PhaseRefusal {
         }
     }
 
-    // The number that is not accepted, or 0.
+    // The number that is not accepted, or 0: a number in any case, as reports print it.
     pub fn place(&self) -> usize
         ensures { result ≡ phase_place self.now }
     {

@@ -34,7 +34,7 @@ impl SaturationRefusal {
         }
     }
 
-    // The number that is not accepted, or 0.
+    // The number that is not accepted, or 0: a number in any case, as reports print it.
     pub fn place(&self) -> usize
         ensures { result ≡ saturation_place self.now }
     {

@@ -16,6 +16,8 @@ use text::phase::contains;
 const UNRANKED: usize = usize::MAX;
 
 // A number of a line, as the table holds it. A cast, which the bound makes safe: no `From` can hold for the bounds up to 255 alone.
+// `moves` has one of its own: a public function would have to ask for such a bound, and public functions ask for nothing.
+// Places of phases are cast too, where a clause says that they are below 256.
 fn byte<const MAX: u16>(number: UpTo<MAX>) -> u8
     requires { MAX ≤ 255 }
     ensures { result ≡ number.entry.value }

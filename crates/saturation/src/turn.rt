@@ -49,6 +49,7 @@ impl<G: Grade> Work<'_, G> {
         ensures proceeded { ProceededOf G.Grade.own setting.now self.old count self.new result }
     {
         let mut settled = setting.settled;
+        // counts turns, and is no index: each turn takes the best row that waits
         for done in 0..count {
             if settled == self.found {
                 break;

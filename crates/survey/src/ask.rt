@@ -28,7 +28,7 @@ impl Ask {
         }
     }
 
-    // Takes a number of the part in. False where there is no such number in a phase.
+    // Takes a number of the part in. False where there is no such number in a phase: a bool, as there is nothing else to tell.
     fn take(&mut self, part: Part, number: u8) -> Result<bool, AllocError> {
         match part {
             Part::Mode => self.mode = number,

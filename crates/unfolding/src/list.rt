@@ -27,7 +27,8 @@ pub(crate) fn parts_of(wagons: Wagons, both: &[usize; 2]) -> &[usize]
 }
 
 // Puts these rows in the place of the row at the top, which has this rank, and tells how many there are on the stack then. None, with
-// nothing changed, where one is not there or of no smaller rank, or where there is no room.
+// nothing changed, where one is not there or of no smaller rank, or where there is no room. The list is lent, with no struct around
+// it: only this function writes to it.
 pub(crate) fn make_way<G: Grade>(
     rows: &[TableRow<G>],
     rank: usize,

@@ -47,6 +47,7 @@ fn lines(rt: &HostRuntime) -> anyhow::Result<()> {
 
 // The lines of a book in some order, and the text that the writer gives for it.
 fn books(rt: &HostRuntime) -> anyhow::Result<()> {
+    // counted here, since reading a file may fail; and the numbers name the files
     let mut agree: u32 = 0;
     for n in 1..7u8 {
         let entered = fs::read(rt, format!(in rt.alloc(); "{n}.in")?.as_str())?;

@@ -13,7 +13,7 @@ fn zero<const MAX: u16>() -> UpTo<MAX>
     UpTo { value: 0 }
 }
 
-// The rows that are not in use.
+// The rows that are not in use, one function for each of two structs with other fields.
 fn blank_watch() -> WatchLine
     ensures { result ≡ blank_watch }
 {

@@ -40,6 +40,7 @@ fn next_mark<const MAX: u16>(marks: &mut Enumerate<Iter<'_, bool>>) -> Option<Up
     ensures end { marks_end marks.new ≡ marks_end marks.old }
 {
     let (number, _) = marks.find(|(_, set)| **set)?;
+    // a cast, which `marks_end` makes safe
     Some(UpTo {
         value: number as u16,
     })
