@@ -3,15 +3,14 @@ use crate::ask::Ask;
 use crate::blank::{blank_cells, blank_rows, blank_waiting};
 use crate::options::Options;
 use crate::runs::print_runs;
+use crate::worked::Worked;
 use book::tables::Book;
 use grade::grade::Grade;
-use paths::best::best_way;
 use paths::refusal::PathRefusal;
 use phases::table::Phases;
-use rowtable::row::{TableRow, TableState};
+use rowtable::row::TableState;
 use saturation::book_rows::saturate_book;
 use saturation::refusal::SaturationRefusal;
-use saturation::saturated::Saturation;
 use std::alloc::{AllocError, Global};
 
 // As in: node 3, or: head 1 6, with the phase as a number.
@@ -28,13 +27,13 @@ fn state_text(heap: Global, phases: &Phases, state: TableState) -> Result<String
 // The rows as lines of text, in the order of their bytes: the order in the table is free.
 fn row_lines<G: Grade + Into<u32>>(
     heap: Global,
-    done: &Saturation,
-    rows: &[TableRow<G>],
+    worked: &Worked<G>,
 ) -> Result<Vec<String>, AllocError> {
+    let phases = &worked.done.phases;
     let mut lines = Vec::new(heap);
-    for row in rows.iter().take(done.rows) {
-        let from = state_text(heap, &done.phases, row.from)?;
-        let to = state_text(heap, &done.phases, row.to)?;
+    for row in worked.rows.iter().take(worked.done.rows) {
+        let from = state_text(heap, phases, row.from)?;
+        let to = state_text(heap, phases, row.to)?;
         let wagon = row.wagon;
         let grade: u32 = row.grade.into();
         lines.push(format!(in heap; "{from} by {wagon} to {to}: {grade}")?)?;
@@ -43,15 +42,11 @@ fn row_lines<G: Grade + Into<u32>>(
     Ok(lines)
 }
 
-fn print_rows<G: Grade + Into<u32>>(
-    rt: &HostRuntime,
-    done: &Saturation,
-    rows: &[TableRow<G>],
-) -> anyhow::Result<()> {
-    let phases = done.phases.count;
-    let count = done.rows;
+fn print_rows<G: Grade + Into<u32>>(rt: &HostRuntime, worked: &Worked<G>) -> anyhow::Result<()> {
+    let phases = worked.done.phases.count;
+    let count = worked.done.rows;
     println!(rt; "phases {phases} rows {count}")?;
-    for line in row_lines(rt.alloc(), done, rows)?.iter() {
+    for line in row_lines(rt.alloc(), worked)?.iter() {
         println!(rt; "{line}")?;
     }
     Ok(())
@@ -70,22 +65,12 @@ pub fn print_path_refusal(rt: &HostRuntime, refusal: PathRefusal) -> anyhow::Res
 
 fn print_ways<G: Grade + Into<u32>>(
     rt: &HostRuntime,
-    book: &Book,
     asks: &[Ask],
-    done: &Saturation,
-    rows: &[TableRow<G>],
+    worked: &Worked<G>,
 ) -> anyhow::Result<()> {
     let mut scratch = blank_cells::<G>(rt.alloc())?;
     for ask in asks {
-        let answer = best_way(
-            book,
-            &done.phases,
-            rows,
-            done.rows,
-            &ask.position(),
-            scratch.as_mut_slice(),
-        );
-        match answer {
+        match worked.best_way(ask, scratch.as_mut_slice()) {
             Ok(grade) => {
                 let shown: u32 = grade.into();
                 println!(rt; "way {shown}")?;
@@ -116,11 +101,16 @@ pub fn print_answers<G: Grade + Into<u32>>(
     match saturate_book(book, rows.as_mut_slice(), waiting.as_mut_slice()) {
         Err(refusal) => print_refusal(rt, refusal),
         Ok(done) => {
+            let worked = Worked {
+                book,
+                done: &done,
+                rows: rows.as_slice(),
+            };
             if options.moves {
-                return print_runs(rt, book, asks, &done, rows.as_slice());
+                return print_runs(rt, asks, &worked);
             }
-            print_rows(rt, &done, rows.as_slice())?;
-            print_ways(rt, book, asks, &done, rows.as_slice())
+            print_rows(rt, &worked)?;
+            print_ways(rt, asks, &worked)
         }
     }
 }

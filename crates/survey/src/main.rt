@@ -12,6 +12,7 @@ mod blank;
 mod options;
 mod runs;
 mod times;
+mod worked;
 
 use ask::{Ask, read_ask};
 use book::tables::Book;

@@ -2,13 +2,9 @@
 use crate::answers::print_path_refusal;
 use crate::ask::Ask;
 use crate::blank::{blank_cells, blank_list};
-use book::tables::Book;
+use crate::worked::Worked;
 use grade::grade::Grade;
-use paths::laid::lay_out;
-use rowtable::row::TableRow;
-use saturation::saturated::Saturation;
 use unfolding::stage::Stage;
-use unfolding::unfold::unfold;
 
 // How many moves are shown of a run.
 const MOST: u32 = 1000;
@@ -16,15 +12,13 @@ const MOST: u32 = 1000;
 // Prints each move with the mode, the phase and the length of the lane after it, and how the run ends.
 fn print_moves<G: Grade>(
     rt: &HostRuntime,
-    book: &Book,
-    rows: &[TableRow<G>],
-    count: usize,
+    worked: &Worked<G>,
     list: &mut [usize],
     start: Stage,
 ) -> anyhow::Result<()> {
     let mut stage = start;
     for _ in 0..MOST {
-        match unfold(book, rows, count, list, stage) {
+        match worked.next(list, stage) {
             Ok(Some(shown)) => {
                 stage = shown.after;
                 let number = shown.number;
@@ -51,24 +45,13 @@ fn print_moves<G: Grade>(
 // Prints for each ask the best grade and the moves of a run that has it.
 pub fn print_runs<G: Grade + Into<u32>>(
     rt: &HostRuntime,
-    book: &Book,
     asks: &[Ask],
-    done: &Saturation,
-    rows: &[TableRow<G>],
+    worked: &Worked<G>,
 ) -> anyhow::Result<()> {
     let mut scratch = blank_cells::<G>(rt.alloc())?;
-    let mut list = blank_list(rt.alloc(), rows.len())?;
+    let mut list = blank_list(rt.alloc(), worked.rows.len())?;
     for ask in asks {
-        let answer = lay_out(
-            book,
-            &done.phases,
-            rows,
-            done.rows,
-            &ask.position(),
-            scratch.as_mut_slice(),
-            list.as_mut_slice(),
-        );
-        match answer {
+        match worked.lay_out(ask, scratch.as_mut_slice(), list.as_mut_slice()) {
             Ok(grade) => {
                 let shown: u32 = grade.into();
                 println!(rt; "way {shown}")?;
@@ -77,7 +60,7 @@ pub fn print_runs<G: Grade + Into<u32>>(
                     phase: ask.phase,
                     length: ask.lane.len(),
                 };
-                print_moves(rt, book, rows, done.rows, list.as_mut_slice(), start)?;
+                print_moves(rt, worked, list.as_mut_slice(), start)?;
             }
             Err(refusal) => print_path_refusal(rt, refusal)?,
         }

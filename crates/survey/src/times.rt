@@ -1,35 +1,19 @@
 // How long working out and asking take.
 use crate::ask::Ask;
 use crate::blank::{blank_cells, blank_rows, blank_waiting};
+use crate::worked::Worked;
 use anyhow::anyhow;
 use book::tables::Book;
 use grade::grade::Grade;
-use paths::best::best_way;
 use paths::cell::Cell;
-use rowtable::row::TableRow;
 use saturation::book_rows::saturate_book;
-use saturation::saturated::Saturation;
 use std::time::Instant;
 
 // Answers all asks once. Gives the sum of the grades, so that both implementations can be seen to do the same work.
-fn ask_all<G: Grade + Into<u32>>(
-    book: &Book,
-    asks: &[Ask],
-    done: &Saturation,
-    rows: &[TableRow<G>],
-    scratch: &mut [Cell<G>],
-) -> u64 {
+fn ask_all<G: Grade + Into<u32>>(asks: &[Ask], worked: &Worked<G>, scratch: &mut [Cell<G>]) -> u64 {
     let mut sum: u64 = 0;
     for ask in asks {
-        let answer = best_way(
-            book,
-            &done.phases,
-            rows,
-            done.rows,
-            &ask.position(),
-            scratch,
-        );
-        if let Ok(grade) = answer {
+        if let Ok(grade) = worked.best_way(ask, scratch) {
             sum = sum.wrapping_add(u64::from(grade.into()));
         }
     }
@@ -38,17 +22,15 @@ fn ask_all<G: Grade + Into<u32>>(
 
 fn print_asking<G: Grade + Into<u32>>(
     rt: &HostRuntime,
-    book: &Book,
     asks: &[Ask],
-    done: &Saturation,
-    rows: &[TableRow<G>],
+    worked: &Worked<G>,
     rounds: u32,
 ) -> anyhow::Result<()> {
     let mut scratch = blank_cells::<G>(rt.alloc())?;
     let mut sum: u64 = 0;
     let start = Instant::now(rt)?;
     for _ in 0..rounds {
-        sum = sum.wrapping_add(ask_all(book, asks, done, rows, scratch.as_mut_slice()));
+        sum = sum.wrapping_add(ask_all(asks, worked, scratch.as_mut_slice()));
     }
     let nanos = start.elapsed(rt)?.as_nanos();
     let count = asks.len();
@@ -77,7 +59,12 @@ pub fn print_times<G: Grade + Into<u32>>(
             let phases = done.phases.count;
             let count = done.rows;
             println!(rt; "working out {nanos} ns phases {phases} rows {count}")?;
-            print_asking(rt, book, asks, &done, rows.as_slice(), rounds)
+            let worked = Worked {
+                book,
+                done: &done,
+                rows: rows.as_slice(),
+            };
+            print_asking(rt, asks, &worked, rounds)
         }
     }
 }

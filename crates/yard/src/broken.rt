@@ -22,31 +22,18 @@ const START: Stage = Stage {
     length: 1,
 };
 
-// The worked yard with each row changed: another state that it leads to, or another reason.
-fn changed(rt: &HostRuntime, change: Change) -> Result<Finder<Minutes>, Fail> {
+// The worked yard with each row changed.
+fn changed<F: Fn(TableRow<Minutes>) -> TableRow<Minutes>>(
+    rt: &HostRuntime,
+    change: F,
+) -> Result<Finder<Minutes>, Fail>
+    requires { F.IsAlwaysCallable change }
+{
     let mut finder = Finder::<Minutes>::new(rt.alloc(), YARD)?;
-    let rows = finder.rows.as_mut_slice();
-    for row in rows.iter_mut() {
-        *row = change.of(*row);
+    for row in finder.rows.as_mut_slice() {
+        *row = change(*row);
     }
     Ok(finder)
-}
-
-#[derive(Clone, Copy)]
-enum Change {
-    To(TableState),
-    Reason(Reason),
-}
-
-impl Change {
-    fn of(self, row: TableRow<Minutes>) -> TableRow<Minutes> {
-        let mut new = row;
-        match self {
-            Change::To(state) => new.to = state,
-            Change::Reason(reason) => new.reason = reason,
-        }
-        new
-    }
 }
 
 #[test]
@@ -56,7 +43,7 @@ fn states_that_do_not_exist(rt: HostRuntime) -> Result<(), Fail> {
         TableState::Head(16, 0),
         TableState::Head(0, 2),
     ] {
-        let finder = changed(&rt, Change::To(state))?;
+        let finder = changed(&rt, |row| TableRow { to: state, ..row })?;
         assert!(rt;
             matches!(
                 finder.ask(rt.alloc(), LANE, AMPLE.scratch)?,
@@ -91,7 +78,7 @@ fn reasons_that_name_nothing(rt: HostRuntime) -> Result<(), Fail> {
         Reason::Order(0, 1, usize::MAX),
     ];
     for reason in reasons {
-        let finder = changed(&rt, Change::Reason(reason))?;
+        let finder = changed(&rt, |row| TableRow { reason, ..row })?;
         assert!(rt; refused(&finder, &rt)?);
     }
     Ok(())
@@ -99,7 +86,13 @@ fn reasons_that_name_nothing(rt: HostRuntime) -> Result<(), Fail> {
 
 #[test]
 fn reasons_in_a_circle(rt: HostRuntime) -> Result<(), Fail> {
-    let finder = changed(&rt, Change::Reason(Reason::Order(0, 0, 0)))?;
+    let finder = changed(
+        &rt,
+        |row| TableRow {
+            reason: Reason::Order(0, 0, 0),
+            ..row
+        },
+    )?;
     for _ in 0..20 {
         assert!(rt; refused(&finder, &rt)?);
     }
