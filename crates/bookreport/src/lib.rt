@@ -11,7 +11,7 @@ use book::refusal::Refusal;
 use book::tables::Book;
 use std::alloc::{AllocError, Global};
 
-// As in: line 3 refused 2 at 7
+// As in: line 3 refused 2 at 7. By `format!` and no `Display` of the refusal: what is proved here is the text itself.
 fn note(heap: Global, line: usize, refusal: &Refusal) -> Result<String, AllocError>
     ensures { IfOk result (λ t. string_bytes t ≡ note_text (record { line = line; refusal = refusal.now })) }
 {

@@ -11,6 +11,7 @@ use grade::upto::UpTo;
 use grade::waiting::Waiting;
 use std::process::Abort;
 
+// A call of the queue, as data, so that a table can list calls with what they should answer.
 #[derive(Clone, Copy)]
 enum Call<E> {
     Put(E),

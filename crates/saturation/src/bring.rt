@@ -16,6 +16,8 @@ use crate::work::Work;
 use grade::grade::Grade;
 use text::line::{NoticeLine, OrderLine, Rule, Wagons};
 
+// `LastOf` ties the row to the work at hand, and `Stands` the order to the book: neither is a fact of one type alone, so they are
+// asked below, of an order and a row that are handed over.
 impl<G: Grade> Work<'_, G> {
     // Tries the order, which lays this wagon down, on the row settled last.
     fn attempt_one(

@@ -45,7 +45,8 @@ impl<G: Grade> Work<'_, G> {
         find(&self.rows[..self.found], wanted)
     }
 
-    // Puts `row` for the one at place `i`, which has its key, if that one waits with a worse grade.
+    // Puts `row` for the one at place `i`, which has its key, if that one waits with a worse grade. That the row waits and has a place
+    // is asked here, and below: rows of the table are of the same type, and settled ones do not wait.
     fn improve(&mut self, setting: &Setting, i: usize, row: TableRow<G>)
         requires table { TableOf G.Grade.own setting.now self.old }
         requires row { (row.rank ≡ unranked) × Placed G.Grade.own setting.now.phases.now row }

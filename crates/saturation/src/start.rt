@@ -1,5 +1,6 @@
 // What waits at the start: the rows of link lines, of watch lines in every opened phase, and of orders that lay nothing down.
 // Each kind has a loop of its own: one function for all would take what is to hold of each row as a parameter, which no clause can.
+// Each asks that no row is settled yet: later that number grows, so it is no fact of `Setting`.
 ghost use Rattle.std.specs.Prelude.{◌≡◌, ℕ, ◌<◌, length, slice_index_or, None};
 ghost use Rattle.text.specs.declared.line.Line.TheVariants as line;
 ghost use Rattle.model.specs.Phases.{Stands};

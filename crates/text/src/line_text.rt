@@ -142,7 +142,7 @@ impl LineText {
         self.word(b"))");
     }
 
-    // Puts an order line.
+    // Puts an order line. That the text is empty before is asked here, and below: it is so once, for the whole line, and not always.
     fn order(&mut self, order: &OrderLine)
         requires { self.old ≡ [] }
         ensures { self.new ≡ text (Line.Order order.now) }

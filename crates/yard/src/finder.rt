@@ -53,6 +53,7 @@ pub struct Finder<G> {
     pub book: Book,
     pub phases: Phases,
     pub rows: Vec<TableRow<G>>,
+    // how many of them are in use: as a caller holds it who may change the rest
     pub count: usize,
 }
 
