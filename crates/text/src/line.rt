@@ -2,6 +2,9 @@
 use grade::toll::Toll;
 use grade::upto::UpTo;
 
+// How many bytes a line has at most.
+pub const LONGEST: usize = 512;
+
 // Where the shunter stands in its work: a control location.
 pub type Mode = UpTo<15>;
 

@@ -3,7 +3,7 @@ ghost use Rattle.std.specs.Prelude.{◌≡◌, ◌+◌, ◌*◌, ◌<◌, ◌≤
 ghost use Rattle.text.specs.Numerals.{held};
 
 use crate::form_name::FormName;
-use crate::line::{Line, NoticeLine, OrderLine, Wagons};
+use crate::line::{LONGEST, Line, NoticeLine, OrderLine, Wagons};
 use crate::phase::bit;
 use crate::refusal::LineRefusal;
 use grade::toll::Toll;
@@ -39,8 +39,8 @@ impl<'a> LineReader<'a> {
             (λ r. (length line.now ≤ 512) × Unread line.now r)
             (λ e. (512 < length line.now) × (e ≡ Syntax 513)) }
     {
-        if line.len() > 512 {
-            return Err(LineRefusal::Syntax(513));
+        if line.len() > LONGEST {
+            return Err(LineRefusal::Syntax(LONGEST + 1));
         }
         Ok(LineReader {
             rest: line,
@@ -135,6 +135,7 @@ impl<'a> LineReader<'a> {
     {
         let at = self.place;
         let within = up_to::<MAX>(self.numeral()?);
+        // where it is above, any number will do: the line is refused at its end
         let number = within.unwrap_or(UpTo { value: 0 });
         self.over = self.over.or(within.is_none().then_some(at));
         self.falls = self.falls.or((number.value < least).then_some(at));

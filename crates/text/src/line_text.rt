@@ -6,18 +6,15 @@ ghost use Rattle.text.specs.Forms.{blank_number, blank_wagon, listed, spelled, t
 ghost use Rattle.text.specs.Names.{name};
 
 use crate::form_name::FormName;
-use crate::line::{Line, NoticeLine, Number, OrderLine, Wagons};
+use crate::line::{LONGEST, Line, NoticeLine, Number, OrderLine, Wagons};
 use crate::phase::contains;
 use grade::toll::Toll;
 use std::marker::Model;
 
-// No line has more bytes than this.
-const MOST: usize = 512;
-
 // The bytes that stand so far: a buffer and a length, since there is no heap for a Vec.
 #[derive(Drop)]
 pub(crate) struct LineText {
-    bytes: [u8; MOST],
+    bytes: [u8; LONGEST],
     len: usize,
 }
 
@@ -35,7 +32,7 @@ impl LineText {
         ensures { result ≡ text line.now }
     {
         let mut text = LineText {
-            bytes: [0; MOST],
+            bytes: [0; LONGEST],
             len: 0,
         };
         text.line(line);
@@ -142,12 +139,13 @@ impl LineText {
         self.word(b"))");
     }
 
-    // Puts an order line. That the text is empty before is asked here, and below: it is so once, for the whole line, and not always.
+    // Puts an order line. That the text is empty before is asked here, and below: each form begins a text, and the room that it needs
+    // is known only then. What the parts above need is asked of each, since no two need the same.
     fn order(&mut self, order: &OrderLine)
         requires { self.old ≡ [] }
         ensures { self.new ≡ text (Line.Order order.now) }
     {
-        self.word(b"(order ");
+        self.word(FormName::Order.bytes());
         self.number(order.number.value);
         self.word(b" (");
         self.pair(order.mode.value, order.wagon.value);
@@ -163,7 +161,7 @@ impl LineText {
         requires { self.old ≡ [] }
         ensures { self.new ≡ text (Line.Notice notice.now) }
     {
-        self.word(b"(notice ");
+        self.word(FormName::Notice.bytes());
         self.number(notice.number.value);
         self.word(b" ");
         self.pair(notice.mode.value, notice.to.value);
@@ -199,7 +197,7 @@ impl LineText {
         requires { self.old ≡ [] }
         ensures { self.new ≡ text (Line.Open phase) }
     {
-        self.word(b"(open");
+        self.word(FormName::Open.bytes());
         self.phase(phase);
         self.word(b")");
     }

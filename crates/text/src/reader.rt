@@ -52,7 +52,7 @@ fn read_named(line: &[u8]) -> Result<Line, LineRefusal>
     }
 }
 
-// What the form that the line names makes of it, where there are orders and notices only.
+// What the form that the line names makes of it, where there are orders and notices only: other names are refused here, at other places.
 fn read_named_rule(line: &[u8]) -> Result<Rule, LineRefusal>
     ensures { as_line result ≡ read_as rule_forms line.now }
 {
