@@ -31,9 +31,9 @@ abbrev pub grade_of : {G : Type 0} → Cell G → Option G
 grade_of c = option_map (λ s. s.grade) c
 
 -- an offer that a row makes: none comes without a row
-abbrev pub ByRow : {G : Type 0} → (ℕ → G → Type 0) → Option ℕ → G → Type 0
-ByRow P None v = ⊥
-ByRow P (Some k) v = P k v
+abbrev pub WithRow : {G : Type 0} → (ℕ → G → Type 0) → Option ℕ → G → Type 0
+WithRow P None v = ⊥
+WithRow P (Some k) v = P k v
 
 module _ {G : Type 0} (m : Ghosts G) where
   -- `P o v`: the grade v is offered, by the row at the place o or, at None, by ending here. Here the step is offered, and nothing better is.
@@ -60,7 +60,7 @@ module _ {G : Type 0} (m : Ghosts G) where
 
   -- what the first n rows offer
   abbrev pub Offers : (Fs : List ℕ) (rows : List (TableRow G)) (n x : ℕ) (behind : List (Cell G)) → TableState → Option ℕ → G → Type 0
-  Offers Fs rows n x behind s = ByRow (Via Fs rows n x behind s)
+  Offers Fs rows n x behind s = WithRow (Via Fs rows n x behind s)
 
   -- a cell after a step was offered: the better of both, and of equals the one that it had
   abbrev pub bettered : Cell G → Step G → Cell G
@@ -80,12 +80,12 @@ abbrev pub Leads : {G : Type 0} → List ℕ → TableRow G → Type 0
 Leads Fs r = Exists Fs r.from × Exists Fs r.to
 
 -- .. which has one proof at most
-Exists-prop : (Fs : List ℕ) (s : TableState) → IsProp (Exists Fs s)
-Exists-prop Fs (Node t) = le_prop
-Exists-prop Fs (Head p i) = ×_prop le_prop le_prop
+exists_prop : (Fs : List ℕ) (s : TableState) → IsProp (Exists Fs s)
+exists_prop Fs (Node t) = le_prop
+exists_prop Fs (Head p i) = ×_prop le_prop le_prop
 
-pub AllLead-prop : {G : Type 0} (Fs : List ℕ) (rows : List (TableRow G)) → IsProp (All (Leads Fs) rows)
-AllLead-prop Fs rows = Π_prop λ k. Π_prop λ d. Π_prop λ _. ×_prop (Exists-prop Fs (slice_index_or rows k d).from) (Exists-prop Fs (slice_index_or rows k d).to)
+pub all_lead_prop : {G : Type 0} (Fs : List ℕ) (rows : List (TableRow G)) → IsProp (All (Leads Fs) rows)
+all_lead_prop Fs rows = Π_prop λ k. Π_prop λ d. Π_prop λ _. ×_prop (exists_prop Fs (slice_index_or rows k d).from) (exists_prop Fs (slice_index_or rows k d).to)
 
 -- each of the first n rows leads from a state that exists to one
 pub record Sound {G : Type 0} (m : Ghosts G) (Fs : List ℕ) (rows : List (TableRow G)) (n : ℕ) : Type 0 where

@@ -22,7 +22,8 @@ use rowtable::row::TableRow;
 
 // The best grade of an accepting path that the first `count` rows make from a position, by a book and a table of phases. Where that
 // has the book's opened phases and the rows are its saturated ones, this is the best grade of a run into the watch.
-// What scratch then holds is free, unless the position is refused.
+// What scratch then holds is free, unless the position is refused. Book, phases, rows and count are each the caller's and may be
+// any, so they are no struct with a fact of its own.
 pub fn best_way<G: Grade>(
     book: &Book,
     phases: &Phases,

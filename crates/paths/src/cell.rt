@@ -2,7 +2,7 @@
 pub type Cell<G> = Option<Step<G>>;
 
 // The best grade of a path from a state, and the place of the row that such a path begins with, or None where it ends there.
-#[derive(Clone, Copy)]
+#[derive(Clone, Copy, Debug, PartialEq, Eq)]
 pub struct Step<G> {
     pub grade: G,
     pub row: Option<usize>,

@@ -1,10 +1,10 @@
 // What paths are sought in: rows that lead between states that exist.
-ghost use Rattle.std.specs.Prelude.{◌≡◌, ℕ, ◌<◌, ◌≤◌, length, take, Decides, MatchResult};
+ghost use Rattle.std.specs.Prelude.{◌≡◌, ◌*◌, ◌+◌, ℕ, ◌<◌, ◌≤◌, length, take, Decides, MatchResult};
 ghost use Rattle.std.specs.List.{All};
 ghost use Rattle.phases.specs.Table.{used};
 ghost use Rattle.rowtable.specs.Tables.{Exists};
 ghost use Rattle.paths.specs.declared.refusal.PathRefusal.TheVariants as refusal;
-ghost use Rattle.paths.specs.Cells.{width, index, Leads, AllLead-prop, Sound};
+ghost use Rattle.paths.specs.Cells.{width, index, Leads, all_lead_prop, Sound};
 
 use crate::refusal::PathRefusal;
 use book::tables::Book;
@@ -19,7 +19,15 @@ pub(crate) struct SoundRows<'a, G: Grade> {
     pub(crate) phases: &'a [u64],
     pub(crate) rows: &'a [TableRow<G>],
     ghost few: { length phases.now ≤ 32 },
-    ghost sound: { All (Leads phases.now) rows.now } by { AllLead-prop phases.now rows.now },
+    ghost sound: { All (Leads phases.now) rows.now } by { all_lead_prop phases.now rows.now },
+}
+
+// How many cells a layer has over so many phases: 16 for each, and 64 for the nodes.
+pub(crate) fn layer_width(phases: usize) -> usize
+    requires { phases ≤ 32 }
+    ensures { result ≡ 16 * phases + 64 }
+{
+    16 * phases + 64
 }
 
 fn exists(phases: &[u64], state: TableState) -> bool
@@ -64,11 +72,11 @@ impl<'a, G: Grade> SoundRows<'a, G> {
         Ok(SoundRows { book, phases, rows })
     }
 
-    // How many cells a layer has: 16 for each phase and 64 for the nodes.
+    // How many cells a layer has.
     pub(crate) fn width(&self) -> usize
         ensures { result ≡ width self.now.phases.now }
     {
-        16 * self.phases.len() + 64
+        layer_width(self.phases.len())
     }
 
     // The place of a state in its layer. That the state exists is asked for and not in its type: it hangs on the phases.

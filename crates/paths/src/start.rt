@@ -7,6 +7,7 @@ ghost use Rattle.paths.specs.Answers.{Asked, Unasked};
 ghost use Rattle.paths.specs.Outcomes.{Starts};
 
 use crate::refusal::PathRefusal;
+use crate::sound::layer_width;
 use phases::position::Position;
 use phases::table::Phases;
 use phases::watch::fits;
@@ -28,8 +29,7 @@ pub(crate) fn start_state(
     let Some(place) = phases.phase_index(position.phase) else {
         return Err(PathRefusal::NotOpened);
     };
-    // the width of a layer, as `SoundRows::width` has it: here the rows are not looked at yet
-    if places < (position.lane.len() + 1) * (16 * phases.count + 64) {
+    if places < (position.lane.len() + 1) * layer_width(phases.count) {
         return Err(PathRefusal::ScratchShort);
     }
     // a cast, which the table of 32 phases makes safe

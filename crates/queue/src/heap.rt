@@ -1,5 +1,5 @@
 // The heap: below the entry at place p stand those at places 2p + 1 and 2p + 2, and no entry is
-// better than the one above it.
+// better than the one above it. Where n stands beside the places, it counts those of the heap: `take` leaves a copy behind them.
 ghost use Rattle.std.specs.Prelude.{◌≡◌, ℕ, ◌+◌, ◌*◌, ◌<◌, ◌≤◌, length};
 ghost use Rattle.queue.specs.Heaps.{at, Heap, HeapBelow, BestChild, Rising, Reordered};
 

@@ -170,10 +170,10 @@ impl<G: Grade> Work<'_, G> {
         ensures ends { BringsOf G.Grade.own setting.now last.now self.old self.new
             (λ later n. ((i : ℕ) → i < length setting.now.phases.now → TriedNotice G.Grade.own setting.now.phases.now notice.now last.now.row i later n)) result }
     {
-        // an index: rows name a phase by its place
+        // an index: rows name a phase by its place, and the notice is tried on the phases at two places
         for place in 0..setting.phases.len() {
             if noticed(setting.phases, notice, place, &last.row) {
-                self.offer(setting, notice_row(notice, place, last))?;
+                self.offer(setting, notice_row(notice, place as u8, last))?;
             }
         }
         Some(())

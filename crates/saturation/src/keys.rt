@@ -6,6 +6,7 @@ ghost use Rattle.saturation.specs.Work.{key};
 use grade::grade::Grade;
 use rowtable::row::TableRow;
 
+// Whether the keys are the same, which is no `==` of rows. States first: that test is seldom guessed wrong.
 fn same_key<G: Grade>(a: &TableRow<G>, b: &TableRow<G>) -> bool
     ensures { Decides result (key a.now ≡ key b.now) }
 {

@@ -17,7 +17,6 @@ const UNRANKED: usize = usize::MAX;
 
 // A number of a line, as the table holds it. A cast, which the bound makes safe: no `From` can hold for the bounds up to 255 alone.
 // `moves` has one of its own: a public function would have to ask for such a bound, and public functions ask for nothing.
-// Places of phases are cast too, where a clause says that they are below 256.
 fn byte<const MAX: u16>(number: UpTo<MAX>) -> u8
     requires { MAX ≤ 255 }
     ensures { result ≡ number.entry.value }
@@ -47,14 +46,13 @@ pub(crate) fn order_row<G: Grade>(
 
 pub(crate) fn notice_row<G: Grade>(
     notice: &NoticeLine,
-    place: usize,
+    place: u8,
     after: &Premise<G>,
 ) -> TableRow<G>
-    requires { place < 256 }
     ensures { result ≡ row_by_notice G.Grade.own notice.now place after.now.row after.now.place }
 {
     TableRow {
-        from: TableState::Head(byte(notice.mode), place as u8),
+        from: TableState::Head(byte(notice.mode), place),
         wagon: after.row.wagon,
         to: after.row.to,
         grade: G::of_toll(notice.toll).joined(after.row.grade),
@@ -86,21 +84,19 @@ pub(crate) fn link_row<G: Grade>(link: &LinkLine) -> TableRow<G>
     )
 }
 
-pub(crate) fn watch_row<G: Grade>(watch: &WatchLine, place: usize) -> TableRow<G>
-    requires { place < 256 }
+pub(crate) fn watch_row<G: Grade>(watch: &WatchLine, place: u8) -> TableRow<G>
     ensures { result ≡ row_by_line G.Grade.own (Head watch.now.mode.value place) watch.now.wagon.value (Node watch.now.node.value) }
 {
-    let from = TableState::Head(byte(watch.mode), place as u8);
+    let from = TableState::Head(byte(watch.mode), place);
     line_row(from, byte(watch.wagon), TableState::Node(byte(watch.node)))
 }
 
 // The row of an order that lays nothing down.
-pub(crate) fn lone_row<G: Grade>(order: &OrderLine, place: usize) -> TableRow<G>
-    requires { place < 256 }
+pub(crate) fn lone_row<G: Grade>(order: &OrderLine, place: u8) -> TableRow<G>
     ensures { result ≡ row_by_order G.Grade.own order.now place (Head order.now.to.value place) G.Grade.best 0 0 }
 {
-    let to = TableState::Head(byte(order.to), place as u8);
-    order_row(order, place as u8, to, G::best_grade(), 0, 0)
+    let to = TableState::Head(byte(order.to), place);
+    order_row(order, place, to, G::best_grade(), 0, 0)
 }
 
 // The place of the phase in which the row starts at the head after the order, by the wagon, if the order is in force in it.

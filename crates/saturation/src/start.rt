@@ -1,6 +1,7 @@
 // What waits at the start: the rows of link lines, of watch lines in every opened phase, and of orders that lay nothing down.
-// Each kind has a loop of its own: one function for all would take what is to hold of each row as a parameter, which no clause can.
-// Each asks that no row is settled yet: later that number grows, so it is no fact of `Setting`.
+// Each kind has a loop of its own: one function that is handed the rows of a kind would need them in a list, and there is no heap.
+// Each asks that no row is settled yet: later that number grows, so it is no fact of `Setting`. A place of a phase is cast to a byte,
+// as `Setting` allows.
 ghost use Rattle.std.specs.Prelude.{◌≡◌, ℕ, ◌<◌, length, slice_index_or, None};
 ghost use Rattle.text.specs.declared.line.Line.TheVariants as line;
 ghost use Rattle.model.specs.Phases.{Stands};
@@ -41,7 +42,7 @@ impl<G: Grade> Work<'_, G> {
         for watch in setting.book.watches_in_use() {
             // an index: rows name a phase by its place
             for place in 0..setting.phases.len() {
-                self.offer(setting, watch_row(watch, place))?;
+                self.offer(setting, watch_row(watch, place as u8))?;
             }
         }
         Some(())
@@ -61,7 +62,7 @@ impl<G: Grade> Work<'_, G> {
         };
         for (place, phase) in setting.phases.iter().enumerate() {
             if contains(*phase, order.number) {
-                self.offer(setting, lone_row(order, place))?;
+                self.offer(setting, lone_row(order, place as u8))?;
             }
         }
         Some(())

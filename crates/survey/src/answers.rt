@@ -81,6 +81,7 @@ fn print_ways<G: Grade + Into<u32>>(
     Ok(())
 }
 
+// By `println!`: a `Display` of the refusals would have to say which of number and place each program prints.
 fn print_refusal(rt: &HostRuntime, refusal: SaturationRefusal) -> anyhow::Result<()> {
     let number = refusal.number();
     let place = refusal.place();

@@ -1,7 +1,7 @@
 use phases::position::Position;
 use std::alloc::{AllocError, Global};
 
-// The parts of an ask, in their order.
+// The parts of an ask, in their order: the place of a bracket says which one is read.
 #[derive(Clone, Copy)]
 enum Part {
     Mode,

@@ -10,6 +10,7 @@ pub fn blank_rows<G: Grade>(heap: Global, places: usize) -> Result<Vec<TableRow<
     Ok(vec![in heap; blank_row(); places]?)
 }
 
+// A place for a row that waits; the tests of `yard` have one of their own.
 pub fn blank_waiting<G: Grade>(heap: Global, places: usize) -> Result<Vec<Waiting<G>>, AllocError> {
     let blank = Waiting {
         grade: G::best_grade(),

@@ -11,6 +11,7 @@ use saturation::saturated::Saturation;
 use unfolding::stage::{Shown, Stage, UnfoldRefusal};
 use unfolding::unfold::unfold;
 
+// The rows are the whole table, as a caller holds it, and `done` has how many are in use.
 #[derive(Drop)]
 pub struct Worked<'a, G> {
     pub book: &'a Book,

@@ -42,7 +42,8 @@ pub(crate) fn are_below<G: Grade>(rows: &[TableRow<G>], rank: usize, places: &[u
 }
 
 // Where the rule leads from a stage, for all that is known of the lane; None where it cannot be carried out there. Modes are cast to
-// bytes, since no `From` can hold for the bounds up to 255 alone.
+// bytes, since no `From` can hold for the bounds up to 255 alone. `moves` has these checks apart: it tells which of two refusals it is,
+// and it asks for the top too.
 pub(crate) fn led_to(rule: &Rule, stage: Stage) -> Option<Stage>
     ensures { Led rule.now stage result }
 {

@@ -58,6 +58,7 @@ const LANE: Position = Position {
 #[test]
 fn scratch_and_list(rt: HostRuntime) -> Result<(), Fail> {
     let finder = Finder::<Minutes>::new(rt.alloc(), YARD)?;
+    // the number of the refusal, 0 where there is none
     let cases = [(192, 7, 0), (192, 6, 12), (191, 7, 11), (191, 6, 11)];
     for (scratch, list, number) in cases {
         match finder.follow(rt.alloc(), LANE, Places { scratch, list })? {

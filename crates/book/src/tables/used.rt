@@ -1,4 +1,4 @@
-// The rows that are in use, lent out.
+// The rows that are in use, lent out: a function for each table, since the tables are of different types.
 ghost use Rattle.std.specs.Prelude.{◌≡◌, take};
 
 use crate::tables::Book;

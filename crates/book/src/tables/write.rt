@@ -8,11 +8,8 @@ ghost use Rattle.book.specs.Writing.{ended, book_text, Tells};
 
 use crate::refusal::Refusal;
 use crate::tables::Book;
-use text::line::Line;
+use text::line::{LONGEST, Line};
 use text::writer::write_line;
-
-// The text of a line has at most so many bytes.
-const LONGEST: usize = 512;
 
 // How many bytes the text of a line has.
 fn line_len(line: &Line) -> usize

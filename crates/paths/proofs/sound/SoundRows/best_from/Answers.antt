@@ -1,6 +1,6 @@
 use Rattle.std.proofs.Common.{◌≡◌, ◌<◌, length, sym, ap, ◌∙◌, subst, arith, rules}
 use Rattle.book.specs.Lines.{lines}
-use Rattle.paths.specs.Cells.{width, index, cell_at, grade_of}
+use Rattle.paths.specs.Cells.{index, cell_at, grade_of}
 use Rattle.paths.specs.Layers.{BestSaid}
 use Rattle.paths.proofs.Layering.{front_whole, front_layer, cell_read}
 use Rattle.paths.proofs.Onward.{says_best}
