@@ -12,6 +12,7 @@ use unfolding::stage::{Shown, Stage, UnfoldRefusal};
 use unfolding::unfold::unfold;
 
 // The rows are the whole table, as a caller holds it, and `done` has how many are in use.
+// The runtime and the asks go beside it: they are no part of a book that is worked out.
 #[derive(Drop)]
 pub struct Worked<'a, G> {
     pub book: &'a Book,
