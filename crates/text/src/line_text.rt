@@ -14,8 +14,8 @@ use std::marker::Model;
 // The bytes that stand so far: a buffer and a length, since there is no heap for a Vec.
 #[derive(Drop)]
 pub(crate) struct LineText {
-    bytes: [u8; LONGEST],
-    len: usize,
+    pub(crate) bytes: [u8; LONGEST],
+    pub(crate) len: usize,
 }
 
 impl Model for LineText {
@@ -27,18 +27,6 @@ impl Model for LineText {
 }
 
 impl LineText {
-    // The text of the line.
-    pub(crate) fn of(line: &Line) -> LineText
-        ensures { result ≡ text line.now }
-    {
-        let mut text = LineText {
-            bytes: [0; LONGEST],
-            len: 0,
-        };
-        text.line(line);
-        text
-    }
-
     pub(crate) fn as_slice(&self) -> &[u8]
         ensures { result.now ≡ self.now }
     {
@@ -203,7 +191,7 @@ impl LineText {
     }
 
     // Puts a line.
-    fn line(&mut self, line: &Line)
+    pub(crate) fn line(&mut self, line: &Line)
         requires { self.old ≡ [] }
         ensures { self.new ≡ text line.now }
     {

@@ -2,7 +2,7 @@
 ghost use Rattle.std.specs.Prelude.{◌≡◌, ◌<◌, ◌++◌, length, drop, MatchOption};
 ghost use Rattle.text.specs.Forms.{text};
 
-use crate::line::Line;
+use crate::line::{LONGEST, Line};
 use crate::line_text::LineText;
 
 // Writes the text of a line at the front of the buffer and gives its length, or leaves the buffer where it is too short.
@@ -11,7 +11,12 @@ pub fn write_line(line: &Line, out: &mut [u8]) -> Option<usize>
         ((length out.old < length (text line.now)) × (out.new ≡ out.old))
         (λ n. (n ≡ length (text line.now)) × (out.new ≡ text line.now ++ drop n out.old)) }
 {
-    let text = LineText::of(line);
+    // in place: a text that a function hands back by value is cleared and copied once more
+    let mut text = LineText {
+        bytes: [0; LONGEST],
+        len: 0,
+    };
+    text.line(line);
     let text = text.as_slice();
     if out.len() < text.len() {
         return None;
