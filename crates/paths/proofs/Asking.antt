@@ -22,7 +22,7 @@ use Rattle.paths.specs.declared.refusal.PathRefusal.{PathRefusal}
 use Rattle.paths.specs.declared.refusal.PathRefusal.TheVariants.{NoWay}
 use Rattle.paths.specs.Answers.{Asked}
 use Rattle.paths.specs.Outcomes.{Starts, RowsSayOf, BestRowsTold, RowsLaidTold}
-use Rattle.paths.specs.Cells.{Cell, grade_of, Sound}
+use Rattle.paths.specs.Cells.{Known, grade_of, Sound}
 use Rattle.paths.specs.Layers.{BestSaid}
 use Rattle.paths.proofs.Taken.{best_of_cut, path_of_cut}
 
@@ -95,7 +95,7 @@ module _ {G : Type 0} (m : Ghosts G) (ls : List Line) (p : Phases) (rows : List 
       (λ v e. path_of_cut m rows n sound.enough ls (subst (λ k. RowPath m k (take n rows) (length (take n rows)) s x.lane ws v) same (subst (λ r. RowPath m ks r (length r) s x.lane ws v) is (path v e))))
 
 -- what holds of the cell's grade
-pub of_grade : {G : Type 0} (A : Type 0) (Q : G → Type 0) (c : Cell G) → MatchOption c A (λ t. Q t.grade) → (o : Option G) → o ≡ grade_of c → (v : G) → o ≡ Some v → Q v
+pub of_grade : {G : Type 0} (A : Type 0) (Q : G → Type 0) (c : Known G) → MatchOption c A (λ t. Q t.grade) → (o : Option G) → o ≡ grade_of c → (v : G) → o ≡ Some v → Q v
 of_grade A Q None held o is v e = let some : None ≡ Some v = sym is ∙ e in let never : ◌≡◌ {A = ℕ} 0 1 = cc in absurd (omega arith)
 of_grade A Q (Some t) held o is v e = let same : Some t.grade ≡ Some v = sym is ∙ e in let grade : t.grade ≡ v = cc in subst Q grade held
 

@@ -1,5 +1,5 @@
 -- Layers one after another in a table.
-use Rattle.std.proofs.Common.{◌≡◌, ℕ, ◌+◌, ◌*◌, ◌<◌, ◌≤◌, List, [], ◌∷◌, ◌++◌, length, get_or, drop, None, Option, sym, ap, ◌∙◌, subst, add-mul, one-mul, arith}
+use Rattle.std.proofs.Common.{◌≡◌, ℕ, ◌+◌, ◌*◌, ◌<◌, ◌≤◌, List, [], ◌∷◌, ◌++◌, length, get_or, drop, Option, sym, ap, ◌∙◌, subst, add-mul, one-mul, arith}
 use Rattle.std.proofs.lemmas.List.{get_or_append_left, get_or_read, length-append}
 use Rattle.std.proofs.Math.Seq.{drop-append_seam}
 use Rattle.grade.specs.declared.grade.Grade.{Ghosts}
@@ -7,7 +7,9 @@ use Rattle.grade.specs.Lawful.{Lawful}
 use Rattle.text.specs.declared.line.Line.{Line}
 use Rattle.rowtable.specs.declared.row.TableState.{TableState}
 use Rattle.rowtable.specs.declared.row.TableRow.{TableRow}
-use Rattle.paths.specs.Cells.{Cell, width, index, cell_at, Says, Layer, Offers, Sound}
+use Rattle.paths.specs.declared.cell.Cell.{Cell}
+use Rattle.paths.specs.declared.cell.Cell.TheVariants.{Unknown}
+use Rattle.paths.specs.Cells.{known, width, index, cell_at, Says, Layer, Offers, Sound}
 use Rattle.paths.specs.Layers.{Stopping, Onward, Layered}
 use Rattle.paths.proofs.Indexes.{index_below}
 use Rattle.paths.proofs.Onward.{filled_onward, stopping_layer}
@@ -21,7 +23,7 @@ module _ {G : Type 0} (m : Ghosts G) (Fs : List ℕ) where
   pub layer_front : (P : TableState → Option ℕ → G → Type 0) (layer behind : List (Cell G)) → length layer ≡ width Fs → Layer m Fs layer P → Layer m Fs (layer ++ behind) P
   layer_front P layer behind wide told s exists =
       let lt = index_below Fs s exists in
-      subst (Says m (P s)) (sym (get_or_append_left layer behind _ (index Fs s) (omega arith))) (told s exists)
+      subst (λ c. Says m (P s) (known c)) (sym (get_or_append_left layer behind Unknown (index Fs s) (omega arith))) (told s exists)
 
 module _ {G : Type 0} (m : Ghosts G) (ls : List Line) (rows : List (TableRow G)) (n : ℕ) (Fs : List ℕ) where
   pub front_whole : (w : List ℕ) (cells : List (Cell G)) → Layered m ls rows n Fs w cells → width Fs ≤ length cells
@@ -51,5 +53,5 @@ module _ {G : Type 0} (m : Ghosts G) (ls : List Line) (rows : List (TableRow G))
   )
 
 -- a cell that was read
-pub cell_read : {G : Type 0} (cells : List (Cell G)) (i j : ℕ) (c : Cell G) → i < length cells → c ≡ get_or cells i c → i ≡ j → c ≡ cell_at cells j
-cell_read cells i j c lt read same = get_or_read cells i c lt read None ∙ ap (cell_at cells) same
+pub cell_read : {G : Type 0} (cells : List (Cell G)) (i j : ℕ) (c : Cell G) → i < length cells → c ≡ get_or cells i c → i ≡ j → known c ≡ cell_at cells j
+cell_read cells i j c lt read same = ap known (get_or_read cells i c lt read Unknown) ∙ ap (cell_at cells) same

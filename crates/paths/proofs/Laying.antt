@@ -10,8 +10,9 @@ use Rattle.rowtable.specs.declared.row.TableState.{TableState}
 use Rattle.rowtable.specs.declared.row.TableRow.{TableRow}
 use Rattle.rowtable.specs.Tables.{Exists, row_at}
 use Rattle.rowtable.specs.Paths.{RowPath, path_end, path_on}
-use Rattle.paths.specs.declared.cell.Step.{Step}
-use Rattle.paths.specs.Cells.{Cell, width, index, cell_at, Chosen, Says, Sound}
+use Rattle.paths.specs.declared.cell.Cell.{Cell}
+use Rattle.paths.specs.declared.cell.Cell.TheVariants.{Unknown, Ends, By}
+use Rattle.paths.specs.Cells.{Step, Known, known, width, index, cell_at, Chosen, Says, Sound}
 use Rattle.paths.specs.Layers.{Onward, Layered}
 use Rattle.paths.proofs.Layering.{cell_read, front_whole, front_layer}
 use Rattle.paths.proofs.Onward.{First, first_row}
@@ -22,13 +23,13 @@ never_none e = let never : ◌≡◌ {A = ℕ} 0 1 = cc in absurd (omega arith)
 
 module _ {G : Type 0} (m : Ghosts G) (ls : List Line) (rows : List (TableRow G)) (n : ℕ) where
   -- the list has a path of the grade that the cell has, or is as it was
-  abbrev pub Laid : Cell G → TableState → List ℕ → List ℕ → List ℕ → Type 0
+  abbrev pub Laid : Known G → TableState → List ℕ → List ℕ → List ℕ → Type 0
   Laid c s w old new = MatchOption c (new ≡ old) (λ t. RowPath m ls rows n s w (reverse new) t.grade)
 
   abbrev On : List ℕ → TableState → Option ℕ → G → Type 0
   On = Onward m ls rows n
 
-  pub laid_end : (s : TableState) (c : Cell G) → Says m (On [] s) c → Laid c s [] [] []
+  pub laid_end : (s : TableState) (c : Known G) → Says m (On [] s) c → Laid c s [] [] []
   laid_end s None says = refl
   laid_end s (Some t) says = let (ks, (is, path)) = says.offered in ended path
     where
@@ -36,11 +37,21 @@ module _ {G : Type 0} (m : Ghosts G) (ls : List Line) (rows : List (TableRow G))
       ended (path_end ending) = path_end ending
 
   -- the row that a cell names, if any
-  abbrev pub Names : Cell G → Option ℕ → Type 0
+  abbrev pub Names : Known G → Option ℕ → Type 0
   Names c o = MatchOption c (o ≡ None) (λ t. o ≡ t.row)
 
+  -- a cell that has no row names none
+  pub names_none : (c : Cell G) → ((v : G) (k : ℕ) → c ≡ By v k → ⊥) → Names (known c) None
+  names_none Unknown other = refl
+  names_none (Ends v) other = refl
+  names_none (By v k) other = absurd (other v k refl)
+
+  -- .. and one that has a row names it
+  pub names_row : (c : Cell G) {v : G} {k : ℕ} → c ≡ By v k → Names (known c) (Some k)
+  names_row c {k = k} is = subst (λ d. Names (known d) (Some k)) (sym is) refl
+
   -- with a wagon left and no row there is no path
-  laid_without : (s : TableState) (x : ℕ) (w : List ℕ) (c : Cell G) → Names c None → Says m (On (x ∷ w) s) c → (old : List ℕ) → Laid c s (x ∷ w) old old
+  laid_without : (s : TableState) (x : ℕ) (w : List ℕ) (c : Known G) → Names c None → Says m (On (x ∷ w) s) c → (old : List ℕ) → Laid c s (x ∷ w) old old
   laid_without s x w None row says old = refl
   laid_without s x w (Some t) row says old = let f = first_row m ls rows n says.offered in never_none (f.begins ∙ sym row)
 
@@ -55,13 +66,13 @@ module _ {G : Type 0} (m : Ghosts G) (ls : List Line) (rows : List (TableRow G))
     place : {v : G} (f : First m ls rows n s x w (Some k) v) → f.place ≡ k
     place f = let e = f.begins in cc
 
-    row_below : (c : Cell G) → Names c (Some k) → Says m (On (x ∷ w) s) c → k < n
+    row_below : (c : Known G) → Names c (Some k) → Says m (On (x ∷ w) s) c → k < n
     row_below None row says = never_none row
     row_below (Some t) row says = let f = first t row says in subst (λ j. j < n) (place f) f.below
 
     module _ (lawful : Lawful m) where
       -- going on by a path of the grade there is as good
-      as_good : (t : Step G) → Chosen m (On (x ∷ w) s) t → (f : First m ls rows n s x w (Some k) t.grade) → f.place ≡ k → (c : Cell G) → Says m (On w to) c → (old new : List ℕ) → Laid c to w old new
+      as_good : (t : Step G) → Chosen m (On (x ∷ w) s) t → (f : First m ls rows n s x w (Some k) t.grade) → f.place ≡ k → (c : Known G) → Says m (On w to) c → (old new : List ℕ) → Laid c to w old new
           → RowPath m ls rows n s (x ∷ w) (reverse (new ++ k ∷ [])) t.grade
       as_good t chosen f is None none old new laid = absurd (none (slice_get f.behind 0) f.rest (f.behind, (refl, subst (λ j. RowPath m ls rows n (row_at m rows j).to w f.behind f.rest) is f.path)))
       as_good t chosen f is (Some g) says old new laid =
@@ -78,7 +89,7 @@ module _ {G : Type 0} (m : Ghosts G) (ls : List Line) (rows : List (TableRow G))
           subst (λ ks. RowPath m ls rows n s (x ∷ w) ks t.grade) (sym (reverse-append new (k ∷ [])))
           (subst (RowPath m ls rows n s (x ∷ w) (k ∷ reverse new)) (lawful.antisymmetric (m.join grade g.grade) t.grade good best) path)
 
-      laid_on : (c : Cell G) → Names c (Some k) → Says m (On (x ∷ w) s) c → (d : Cell G) → Says m (On w to) d → (old below new : List ℕ) → Laid d to w below new → Laid c s (x ∷ w) old (new ++ k ∷ [])
+      laid_on : (c : Known G) → Names c (Some k) → Says m (On (x ∷ w) s) c → (d : Known G) → Says m (On w to) d → (old below new : List ℕ) → Laid d to w below new → Laid c s (x ∷ w) old (new ++ k ∷ [])
       laid_on None row says d there old below new laid = never_none row
       laid_on (Some t) row says d there old below new laid = let f = first t row says in as_good t says f (place f) d there below new laid
 
@@ -92,7 +103,7 @@ module _ {G : Type 0} (m : Ghosts G) (ls : List Line) (rows : List (TableRow G))
   opened = drop_more lane 0 0 some ∙ ap (λ w. top ∷ w) (sym tail)
 
   module _ (layered : Layered m ls rows n Fs lane cells) (s : TableState) (exists : Exists Fs s) where
-    abbrev here : Cell G
+    abbrev here : Known G
     here = cell_at cells (index Fs s)
 
     both : Layered m ls rows n Fs (top ∷ rest) cells
@@ -120,7 +131,7 @@ from_one w = grind (arith, common_steps)
 
 -- the row that a cell names, as the program reads it
 pub names_read : {G : Type 0} (m : Ghosts G) (ls : List Line) (rows : List (TableRow G)) (n : ℕ) (Fs lane : List ℕ) (cells : List (Cell G)) → Layered m ls rows n Fs lane cells → (s : TableState) (i : ℕ) (c : Cell G) (o : Option ℕ)
-    → i < width Fs → i ≡ index Fs s → c ≡ get_or cells i c → Names m ls rows n c o → Names m ls rows n (cell_at cells (index Fs s)) o
+    → i < width Fs → i ≡ index Fs s → c ≡ get_or cells i c → Names m ls rows n (known c) o → Names m ls rows n (cell_at cells (index Fs s)) o
 names_read m ls rows n Fs lane cells layered s i c o low is read row =
     let whole = front_whole m ls rows n Fs lane cells layered in
     subst (λ d. Names m ls rows n d o) (cell_read cells i (index Fs s) c (omega arith) read is) row

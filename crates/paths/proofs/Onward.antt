@@ -9,7 +9,8 @@ use Rattle.rowtable.specs.declared.row.TableState.{TableState}
 use Rattle.rowtable.specs.declared.row.TableRow.{TableRow}
 use Rattle.rowtable.specs.Tables.{row_at}
 use Rattle.rowtable.specs.Paths.{RowPath, path_end, path_on}
-use Rattle.paths.specs.Cells.{Cell, index, cell_at, grade_of, Says, Layer, Offers, Sound}
+use Rattle.paths.specs.declared.cell.Cell.{Cell}
+use Rattle.paths.specs.Cells.{Known, index, cell_at, grade_of, Says, Layer, Offers, Sound}
 use Rattle.paths.specs.Layers.{Stopping, Onward, BestSaid}
 
 module _ {G : Type 0} (m : Ghosts G) (ls : List Line) (rows : List (TableRow G)) (n : ℕ) where
@@ -45,12 +46,12 @@ module _ {G : Type 0} (m : Ghosts G) (ls : List Line) (rows : List (TableRow G))
       to : (o : Option ℕ) (v : G) → Stopping m ls s o v → On [] s o v
       to o v (is, (ending, best)) = ([], (sym is, subst (RowPath m ls rows n s [] []) (sym best) (path_end ending)))
 
-      says : (c : Cell G) → Says m (Stopping m ls s) c → Says m (On [] s) c
+      says : (c : Known G) → Says m (Stopping m ls s) c → Says m (On [] s) c
       says None none = λ o v (ks, (is, path)). none o v (stopping_of o is path)
       says (Some t) c = record { offered = to t.row t.grade c.offered; no_better = λ o v (ks, (is, path)). c.no_better o v (stopping_of o is path) }
 
   -- a cell that says what goes on has the best that the rows say
-  pub says_best : (w : List ℕ) (s : TableState) (c : Cell G) → Says m (On w s) c → BestSaid m ls rows n s w (grade_of c)
+  pub says_best : (w : List ℕ) (s : TableState) (c : Known G) → Says m (On w s) c → BestSaid m ls rows n s w (grade_of c)
   says_best w s None none = λ v (ks, path). none (slice_get ks 0) v (ks, (refl, path))
   says_best w s (Some t) c = record {
     attained = (c.offered.0, c.offered.1.1);
@@ -59,7 +60,7 @@ module _ {G : Type 0} (m : Ghosts G) (ls : List Line) (rows : List (TableRow G))
 
   module _ (lawful : Lawful m) {Fs : List ℕ} (sound : Sound m Fs rows n) (x : ℕ) (w : List ℕ) (behind layer : List (Cell G)) (there : Layer m Fs behind (On w)) where
     -- the cell behind the other end of row k
-    abbrev rest_cell : ℕ → Cell G
+    abbrev rest_cell : ℕ → Known G
     rest_cell k = cell_at behind (index Fs (row_at m rows k).to)
 
     abbrev By : TableState → Option ℕ → G → Type 0
@@ -76,7 +77,7 @@ module _ {G : Type 0} (m : Ghosts G) (ls : List Line) (rows : List (TableRow G))
         (k ∷ ks, (refl, subst (RowPath m ls rows n s (x ∷ w) (k ∷ ks)) h.joins (path_on h.below h.from h.by path)))
 
     -- .. and for every path by a row, the row offers one that is no worse
-    best_offer : (s : TableState) (o : Option ℕ) (v : G) (f : First s x w o v) (c : Cell G) → rest_cell f.place ≡ c → Says m (On w (row_at m rows f.place).to) c → (u : G) × By s o u × T (m.noworse u v)
+    best_offer : (s : TableState) (o : Option ℕ) (v : G) (f : First s x w o v) (c : Known G) → rest_cell f.place ≡ c → Says m (On w (row_at m rows f.place).to) c → (u : G) × By s o u × T (m.noworse u v)
     best_offer s o v f None has none = absurd (none (slice_get f.behind 0) f.rest (f.behind, (refl, f.path)))
     best_offer s o v f (Some g) has best =
         let grade = (row_at m rows f.place).grade in (
@@ -88,7 +89,7 @@ module _ {G : Type 0} (m : Ghosts G) (ls : List Line) (rows : List (TableRow G))
     path_offer : (s : TableState) (o : Option ℕ) (v : G) → On (x ∷ w) s o v → (u : G) × By s o u × T (m.noworse u v)
     path_offer s o v by = let f = first_row by in best_offer s o v f (rest_cell f.place) refl (told f.place f.below)
 
-    onward_says : (s : TableState) (c : Cell G) → Says m (By s) c → Says m (On (x ∷ w) s) c
+    onward_says : (s : TableState) (c : Known G) → Says m (By s) c → Says m (On (x ∷ w) s) c
     onward_says s None none = λ o v by. let (u, h, less) = path_offer s o v by in none o u h
     onward_says s (Some g) c = record {
       offered = offer_path s g.row g.grade c.offered;

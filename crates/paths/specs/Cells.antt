@@ -8,11 +8,23 @@ use Rattle.rowtable.specs.declared.row.TableState.{TableState}
 use Rattle.rowtable.specs.declared.row.TableState.TheVariants.{Node, Head}
 use Rattle.rowtable.specs.declared.row.TableRow.{TableRow}
 use Rattle.rowtable.specs.Tables.{Exists, row_at}
-use Rattle.paths.specs.declared.cell.Step.{Step}
+use Rattle.paths.specs.declared.cell.Cell.{Cell}
+use Rattle.paths.specs.declared.cell.Cell.TheVariants.{Unknown, Ends, By}
 
--- a cell, as the program calls it
-abbrev pub Cell : Type 0 → Type 0
-Cell G = Option (Step G)
+-- the best grade of a path from a state, and the place of the row that such a path begins with, or None where it ends there
+pub record Step (G : Type 0) : Type 0 where
+  pub grade : G
+  pub row : Option ℕ
+
+-- what is known of a state: the best step from there, or None where no path leads on
+abbrev pub Known : Type 0 → Type 0
+Known G = Option (Step G)
+
+-- what a cell says of its state
+abbrev pub known : {G : Type 0} → Cell G → Known G
+known Unknown = None
+known (Ends v) = Some (record { grade = v; row = None })
+known (By v k) = Some (record { grade = v; row = Some k })
 
 -- the places of a layer: one for each state, 16 for each phase and 64 for the nodes
 abbrev pub width : List ℕ → ℕ
@@ -23,11 +35,11 @@ abbrev pub index : List ℕ → TableState → ℕ
 index Fs (Node t) = 16 * length Fs + t
 index Fs (Head p i) = 16 * i + p
 
-abbrev pub cell_at : {G : Type 0} → List (Cell G) → ℕ → Cell G
-cell_at cells k = slice_index_or cells k None
+abbrev pub cell_at : {G : Type 0} → List (Cell G) → ℕ → Known G
+cell_at cells k = known (slice_index_or cells k Unknown)
 
 -- the grade that is known, if any
-abbrev pub grade_of : {G : Type 0} → Cell G → Option G
+abbrev pub grade_of : {G : Type 0} → Known G → Option G
 grade_of c = option_map (λ s. s.grade) c
 
 -- an offer that a row makes: none comes without a row
@@ -42,7 +54,7 @@ module _ {G : Type 0} (m : Ghosts G) where
     pub no_better : (o : Option ℕ) (u : G) → P o u → T (m.noworse s.grade u)
 
   -- the cell has the best that is offered, with what offers it, or has nothing where nothing is
-  abbrev pub Says : (Option ℕ → G → Type 0) → Cell G → Type 0
+  abbrev pub Says : (Option ℕ → G → Type 0) → Known G → Type 0
   Says P c = MatchOption c ((o : Option ℕ) (v : G) → P o v → ⊥) (Chosen P)
 
   -- the cells of all states
@@ -62,15 +74,16 @@ module _ {G : Type 0} (m : Ghosts G) where
   abbrev pub Offers : (Fs : List ℕ) (rows : List (TableRow G)) (n x : ℕ) (behind : List (Cell G)) → TableState → Option ℕ → G → Type 0
   Offers Fs rows n x behind s = WithRow (Via Fs rows n x behind s)
 
-  -- a cell after a step was offered: the better of both, and of equals the one that it had
-  abbrev pub bettered : Cell G → Step G → Cell G
-  bettered None s = Some s
-  bettered (Some t) s = cond (m.noworse t.grade s.grade) (Some t) (Some s)
+  -- a cell after row k offered a grade: the better of both, and of equals the one that it had
+  abbrev pub bettered : Cell G → ℕ → G → Cell G
+  bettered Unknown k v = By v k
+  bettered (Ends u) k v = cond (m.noworse u v) (Ends u) (By v k)
+  bettered (By u l) k v = cond (m.noworse u v) (By u l) (By v k)
 
-  -- the layer after row k was brought in at a place, where this is the cell of its other end
-  abbrev pub brought_by : Cell G → List (Cell G) → ℕ → ℕ → G → List (Cell G)
+  -- the layer after row k was brought in at a place, where this is known of its other end
+  abbrev pub brought_by : Known G → List (Cell G) → ℕ → ℕ → G → List (Cell G)
   brought_by None layer place k v = layer
-  brought_by (Some rest) layer place k v = slice_set layer place (bettered (cell_at layer place) (record { grade = m.join v rest.grade; row = Some k }))
+  brought_by (Some rest) layer place k v = slice_set layer place (bettered (slice_index_or layer place Unknown) k (m.join v rest.grade))
 
   abbrev pub brought : List ℕ → List (Cell G) → List (Cell G) → ℕ → ℕ → TableRow G → List (Cell G)
   brought Fs behind layer x k r = cond (r.wagon == x) (brought_by (cell_at behind (index Fs r.to)) layer (index Fs r.from) k r.grade) layer

@@ -10,7 +10,8 @@ use Rattle.rowtable.specs.declared.row.TableState.{TableState}
 use Rattle.rowtable.specs.declared.row.TableRow.{TableRow}
 use Rattle.rowtable.specs.Tables.{row_of, row_at, Held}
 use Rattle.rowtable.specs.Paths.{Ending, RowPath, RowsSay}
-use Rattle.paths.specs.Cells.{Cell, width, Layer}
+use Rattle.paths.specs.declared.cell.Cell.{Cell}
+use Rattle.paths.specs.Cells.{width, Layer}
 
 -- with no wagon left, a path may end here, by no row, and that is the best
 abbrev pub Stopping : {G : Type 0} → Ghosts G → List Line → TableState → Option ℕ → G → Type 0

@@ -3,8 +3,7 @@ ghost use Rattle.std.specs.Prelude.{◌≡◌, ◌+◌, ◌*◌, ◌≤◌, reve
 ghost use Rattle.book.specs.Lines.{lines};
 ghost use Rattle.rowtable.specs.Tables.{Exists};
 ghost use Rattle.rowtable.specs.Paths.{RowPath};
-ghost use Rattle.paths.specs.declared.cell.Step.{Step as Found};
-ghost use Rattle.paths.specs.Cells.{width, index, cell_at};
+ghost use Rattle.paths.specs.Cells.{width, index, cell_at, Step};
 ghost use Rattle.paths.specs.Layers.{Layered, BestSaid};
 
 use crate::cell::Cell;
@@ -21,13 +20,14 @@ impl<'a, G: Grade> SoundRows<'a, G> {
         requires places { length list.old ≡ length lane.now }
         requires layered { Layered G.Grade.own (lines self.now.book.now) self.now.rows.now (length self.now.rows.now) self.now.phases.now lane.now cells.now }
         ensures { MatchOption (cell_at cells.now (index self.now.phases.now state)) (list.new ≡ list.old)
-            (λ (s : Found G). RowPath G.Grade.own (lines self.now.book.now) self.now.rows.now (length self.now.rows.now) state lane.now (reverse list.new) s.grade) }
+            (λ (s : Step G). RowPath G.Grade.own (lines self.now.book.now) self.now.rows.now (length self.now.rows.now) state lane.now (reverse list.new) s.grade) }
     {
         lawful::<G>();
         let Some((slot, below)) = list.split_last_mut() else {
             return;
         };
-        let Some(place) = cells[self.index(state)].and_then(|step| step.row) else {
+        let cell = cells[self.index(state)];
+        let Cell::By(_, place) = cell else {
             return;
         };
         *slot = place;

@@ -2,20 +2,20 @@
 ghost use Rattle.std.specs.Prelude.{◌≡◌, ◌≤◌, length};
 ghost use Rattle.paths.specs.Cells.{width, Leads, bettered, brought, Layer, Offers};
 
-use crate::cell::{Cell, Step};
+use crate::cell::Cell;
 use crate::sound::SoundRows;
 use grade::grade::Grade;
 use grade::theorems::lawful;
 use rowtable::row::TableRow;
 
-// Offers a step for a cell, which keeps the better.
-fn offer<G: Grade>(cell: &mut Cell<G>, step: Step<G>)
-    ensures { cell.new ≡ bettered G.Grade.own cell.old step }
+// Offers a grade by the row at a place for a cell, which keeps the better.
+fn offer<G: Grade>(cell: &mut Cell<G>, grade: G, place: usize)
+    ensures { cell.new ≡ bettered G.Grade.own cell.old place grade }
 {
     G::agrees();
-    match cell {
-        Some(known) if known.grade.no_worse(&step.grade) => {}
-        _ => *cell = Some(step),
+    match cell.grade() {
+        Some(known) if known.no_worse(&grade) => {}
+        _ => *cell = Cell::By(grade, place),
     }
 }
 
@@ -37,12 +37,9 @@ impl<'a, G: Grade> SoundRows<'a, G> {
         if row.wagon != wagon {
             return;
         }
-        if let Some(rest) = behind[self.index(row.to)] {
-            let step = Step {
-                grade: row.grade.joined(rest.grade),
-                row: Some(place),
-            };
-            offer(&mut layer[self.index(row.from)], step);
+        if let Some(rest) = behind[self.index(row.to)].grade() {
+            let grade = row.grade.joined(rest);
+            offer(&mut layer[self.index(row.from)], grade, place);
         }
     }
 
@@ -54,7 +51,7 @@ impl<'a, G: Grade> SoundRows<'a, G> {
             (Offers G.Grade.own self.now.phases.now self.now.rows.now (length self.now.rows.now) wagon behind.now) }
     {
         lawful::<G>();
-        layer.fill(None);
+        layer.fill(Cell::Unknown);
         for (place, row) in self.rows.iter().enumerate() {
             self.bring_row(place, row, wagon, behind, layer);
         }

@@ -43,6 +43,6 @@ impl<'a, G: Grade> SoundRows<'a, G> {
         ensures told { BestSaid G.Grade.own (lines self.now.book.now) self.now.rows.now (length self.now.rows.now) start lane.now result }
     {
         self.fill_layers(lane, cells);
-        cells[self.index(start)].map(|step| step.grade)
+        cells[self.index(start)].grade()
     }
 }

@@ -4,10 +4,10 @@ ghost use Rattle.book.specs.Lines.{lines};
 ghost use Rattle.rowtable.specs.declared.row.TableState.{TableState as Place};
 ghost use Rattle.rowtable.specs.Tables.{Exists};
 ghost use Rattle.rowtable.specs.Paths.{Ending};
-ghost use Rattle.paths.specs.Cells.{width, index, Says, Layer};
+ghost use Rattle.paths.specs.Cells.{width, index, known, Says, Layer};
 ghost use Rattle.paths.specs.Layers.{Stopping};
 
-use crate::cell::{Cell, Step};
+use crate::cell::Cell;
 use crate::sound::SoundRows;
 use grade::grade::Grade;
 use grade::theorems::lawful;
@@ -31,14 +31,14 @@ impl<'a, G: Grade> SoundRows<'a, G> {
     fn end_cell(&self, number: usize) -> Cell<G>
         requires { number < width self.now.phases.now }
         ensures { (s : Place) → Exists self.now.phases.now s → index self.now.phases.now s ≡ number
-            → Says G.Grade.own (Stopping G.Grade.own (lines self.now.book.now) s) result }
+            → Says G.Grade.own (Stopping G.Grade.own (lines self.now.book.now) s) (known result) }
     {
         lawful::<G>();
-        let end = Step {
-            grade: G::best_grade(),
-            row: None,
-        };
-        self.stops(number).then_some(end)
+        if self.stops(number) {
+            Cell::Ends(G::best_grade())
+        } else {
+            Cell::Unknown
+        }
     }
 
     pub(crate) fn last_layer(&self, layer: &mut [Cell<G>])

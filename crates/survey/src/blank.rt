@@ -26,5 +26,5 @@ pub fn blank_list(heap: Global, rows: usize) -> Result<Vec<usize>, AllocError> {
 
 // Cells for a lane of 32 wagons and 32 phases: 33 layers, each with 16 modes in every phase, and 64 nodes.
 pub fn blank_cells<G: Grade>(heap: Global) -> Result<Vec<Cell<G>>, AllocError> {
-    Ok(vec![in heap; None; 33 * 576]?)
+    Ok(vec![in heap; Cell::Unknown; 33 * 576]?)
 }

@@ -3,7 +3,7 @@ use book::tables::Book;
 use grade::grade::Grade;
 use grade::waiting::Waiting;
 use paths::best::best_way;
-use paths::cell::Step;
+use paths::cell::Cell;
 use paths::laid::lay_out;
 use paths::refusal::PathRefusal;
 use phases::position::Position;
@@ -93,7 +93,7 @@ impl<G: Grade> Finder<G> {
         ask: Position,
         scratch: usize,
     ) -> Result<Result<G, PathRefusal>, Fail> {
-        let mut cells = vec![in heap; None::<Step<G>>; scratch]?;
+        let mut cells = vec![in heap; Cell::Unknown; scratch]?;
         Ok(best_way(
             &self.book,
             &self.phases,
@@ -111,7 +111,7 @@ impl<G: Grade> Finder<G> {
         ask: Position,
         places: Places,
     ) -> Result<Result<(G, Vec<usize>), PathRefusal>, Fail> {
-        let mut cells = vec![in heap; None::<Step<G>>; places.scratch]?;
+        let mut cells = vec![in heap; Cell::Unknown; places.scratch]?;
         let mut list = vec![in heap; 0usize; places.list]?;
         let answer = lay_out(
             &self.book,

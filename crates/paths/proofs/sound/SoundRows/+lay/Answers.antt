@@ -2,10 +2,10 @@ use Rattle.std.proofs.Common.{◌≡◌, ◌-◌, ◌<◌, [], None, Some, lengt
 use Rattle.std.proofs.lemmas.List.{get_or_default, nil_from_length, length-drop}
 use Rattle.book.specs.Lines.{lines}
 use Rattle.rowtable.specs.Tables.{Exists, blank_row, row_at}
-use Rattle.paths.specs.Cells.{index, cell_at}
+use Rattle.paths.specs.Cells.{known, index, cell_at}
 use Rattle.paths.specs.Layers.{Layered}
 use Rattle.paths.proofs.Layering.{front_whole, front_layer}
-use Rattle.paths.proofs.Laying.{Names, Laid, laid_end, lane_behind, lane_without, lane_below, lane_on, from_one, names_read}
+use Rattle.paths.proofs.Laying.{Names, Laid, laid_end, lane_behind, lane_without, lane_below, lane_on, from_one, names_none, names_row, names_read}
 use Rattle.paths.proofs.Taken.{all_sound}
 use Rattle.paths.proofs.sound.SoundRows.+lay.Goals as goal
 
@@ -44,8 +44,8 @@ returns-in_default g t c =
     (subst (λ l. Laid m ls rows (length rows) here s [] l l) (sym nothing)
     (laid_end m ls rows (length rows) s here (front_layer m ls rows (length rows) Fs [] cells (subst (λ w. Layered m ls rows (length rows) Fs w cells) none c.requires.layered) s c.requires.exists)))
 
-pub returns-in_default-and_then : goal.returns-in_default-and_then
-returns-in_default-and_then g t c =
+pub returns-in_default-cell : goal.returns-in_default-cell
+returns-in_default-cell g t c =
     let m = g.G.Grade in
     let ls = lines c.args.self.now.book.now in
     let rows = c.args.self.now.rows.now in
@@ -55,7 +55,7 @@ returns-in_default-and_then g t c =
     let lane = c.args.lane.now in
     let list = c.args.list.now in
     let some : 0 < length lane = let less = c.in-Some.ensures.cases.1 in let places = c.requires.places in omega arith in
-    let row : Names m ls rows (length rows) c.index-cells-index.result None = subst (Names m ls rows (length rows) c.index-cells-index.result) c.in_default-and_then.is (search rules) in
+    let row = names_none m ls rows (length rows) c.index-cells-index.result c.in_default-cell.not-By in
     subst (Laid m ls rows (length rows) (cell_at cells (index Fs s)) s lane list) c.in-Some.ensures.cases.0
     (lane_without m ls rows (length rows) Fs lane (drop 1 lane) some refl cells _ refl c.requires.layered s c.requires.exists
     (names_read m ls rows (length rows) Fs lane cells c.requires.layered s c.index.result c.index-cells-index.result None c.index.ensures.within c.index.ensures.is c.index-cells-index.is row) list)
@@ -69,14 +69,14 @@ bounds-self-place g t c =
     let s = c.args.state in
     let cells = c.args.cells.now in
     let lane = c.args.lane.now in
-    let place = c.in-Some-and_then.place in
+    let place = c.in-By.place in
     let some : 0 < length lane = let less = c.in-Some.ensures.cases.1 in let places = c.requires.places in omega arith in
-    let row : Names m ls rows (length rows) c.index-cells-index.result (Some place) = subst (Names m ls rows (length rows) c.index-cells-index.result) c.in-Some-and_then.is (search rules) in
+    let row = names_row m ls rows (length rows) c.index-cells-index.result c.in-By.is in
     lane_below m ls rows (length rows) Fs lane (drop 1 lane) some refl cells _ refl c.requires.layered s c.requires.exists place
     (names_read m ls rows (length rows) Fs lane cells c.requires.layered s c.index.result c.index-cells-index.result (Some place) c.index.ensures.within c.index.ensures.is c.index-cells-index.is row)
 
 pub offset_bounds-self-place : goal.offset_bounds-self-place
-offset_bounds-self-place g t c = let lt : c.in-Some-and_then.place < length c.args.self.now.rows.now = bounds-self-place g t c in search rules
+offset_bounds-self-place g t c = let lt : c.in-By.place < length c.args.self.now.rows.now = bounds-self-place g t c in search rules
 
 pub lay-requires : goal.lay-requires
 lay-requires g t c κs within =
@@ -87,13 +87,13 @@ lay-requires g t c κs within =
     let s = c.args.state in
     let cells = c.args.cells.now in
     let lane = c.args.lane.now in
-    let place = c.in-Some-and_then.place in
+    let place = c.in-By.place in
     let some : 0 < length lane = let less = c.in-Some.ensures.cases.1 in let places = c.requires.places in omega arith in
     let tail = from_one lane in
     let cut = c.split_at.ensures.back ∙ ap (λ w. drop w cells) c.width.ensures in
     let rest = take (length lane - 1) (drop 1 lane) in
     let behind = c.split_at.result.1.now in
-    let row : Names m ls rows (length rows) c.index-cells-index.result (Some place) = subst (Names m ls rows (length rows) c.index-cells-index.result) c.in-Some-and_then.is (search rules) in
+    let row = names_row m ls rows (length rows) c.index-cells-index.result c.in-By.is in
     let names = names_read m ls rows (length rows) Fs lane cells c.requires.layered s c.index.result c.index-cells-index.result (Some place) c.index.ensures.within c.index.ensures.is c.index-cells-index.is row in
     let below = lane_below m ls rows (length rows) Fs lane rest some tail cells behind cut c.requires.layered s c.requires.exists place names in
     let exists : Exists Fs (get_or rows place c.index-self-place.result).to = (c.args.self.now.sound place c.index-self-place.result below).1 in
@@ -109,12 +109,12 @@ returns g t c =
     let s = c.args.state in
     let cells = c.args.cells.now in
     let lane = c.args.lane.now in
-    let place = c.in-Some-and_then.place in
+    let place = c.in-By.place in
     let some : 0 < length lane = let less = c.in-Some.ensures.cases.1 in let places = c.requires.places in omega arith in
     let cut = c.split_at.ensures.back ∙ ap (λ w. drop w cells) c.width.ensures in
     let rest = take (length lane - 1) (drop 1 lane) in
     let behind = c.split_at.result.1.now in
-    let row : Names m ls rows (length rows) c.index-cells-index.result (Some place) = subst (Names m ls rows (length rows) c.index-cells-index.result) c.in-Some-and_then.is (search rules) in
+    let row = names_row m ls rows (length rows) c.index-cells-index.result c.in-By.is in
     let names = names_read m ls rows (length rows) Fs lane cells c.requires.layered s c.index.result c.index-cells-index.result (Some place) c.index.ensures.within c.index.ensures.is c.index-cells-index.is row in
     let below = lane_below m ls rows (length rows) Fs lane rest some (from_one lane) cells behind cut c.requires.layered s c.requires.exists place names in
     let is : get_or rows place c.index-self-place.result ≡ row_at m rows place = get_or_default rows place c.index-self-place.result (blank_row m.best) below in
