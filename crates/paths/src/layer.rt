@@ -52,8 +52,14 @@ impl<'a, G: Grade> SoundRows<'a, G> {
     {
         lawful::<G>();
         layer.fill(Cell::Unknown);
-        for (place, row) in self.rows.iter().enumerate() {
-            self.bring_row(place, row, wagon, behind, layer);
+        // a copy, so that its fields are read once and not again after each write to the layer
+        let table = SoundRows {
+            book: self.book,
+            phases: self.phases,
+            rows: self.rows,
+        };
+        for (place, row) in table.rows.iter().enumerate() {
+            table.bring_row(place, row, wagon, behind, layer);
         }
     }
 }

@@ -45,8 +45,14 @@ impl<'a, G: Grade> SoundRows<'a, G> {
         requires { length layer.old ≡ width self.now.phases.now }
         ensures { Layer G.Grade.own self.now.phases.now layer.new (Stopping G.Grade.own (lines self.now.book.now)) }
     {
+        // a copy, so that its fields are read once and not again after each write to the layer
+        let table = SoundRows {
+            book: self.book,
+            phases: self.phases,
+            rows: self.rows,
+        };
         for (number, cell) in layer.iter_mut().enumerate() {
-            *cell = self.end_cell(number);
+            *cell = table.end_cell(number);
         }
     }
 }
