@@ -2,10 +2,10 @@ use Rattle.std.proofs.Common.{◌≡◌, ◌-◌, ◌<◌, [], None, Some, lengt
 use Rattle.std.proofs.lemmas.List.{get_or_default, nil_from_length, length-drop}
 use Rattle.book.specs.Lines.{lines}
 use Rattle.rowtable.specs.Tables.{Exists, blank_row, row_at}
-use Rattle.paths.specs.Cells.{known, index, cell_at}
+use Rattle.paths.specs.Cells.{index, cell_at}
 use Rattle.paths.specs.Layers.{Layered}
 use Rattle.paths.proofs.Layering.{front_whole, front_layer}
-use Rattle.paths.proofs.Laying.{Names, Laid, laid_end, lane_behind, lane_without, lane_below, lane_on, from_one, names_none, names_row, names_read}
+use Rattle.paths.proofs.Laying.{Laid, laid_end, lane_behind, lane_without, lane_below, lane_on, from_one, names_none, names_row, names_read}
 use Rattle.paths.proofs.Taken.{all_sound}
 use Rattle.paths.proofs.sound.SoundRows.+lay.Goals as goal
 
